@@ -9,13 +9,14 @@ from collections.abc import Iterable, Sequence
 from typing import NamedTuple, Optional, Union
 
 from .baskets import OFFERED, PASSED, Basket, Sieve
-from .kinds import DONE, KINDS, METADATA, SECOND_METADATA, Answer, Clash, Fault, in_words
+from .kinds import DONE, KINDS, METADATA, READ, SECOND_METADATA, SYMBOL, Answer, Clash, Fault, in_words
 from .shapes import Shape, name_of
 from .streams import Sink, Source, Streams, take_envelope, write_in_slices
 from .wire import LARGE, Data
 
 SECONDS = 10.0  # a deadline for what is asked at once
 LONGEST_REPLY = 4  # the frames of a reply, with the last answer
+LONGEST_END = 133  # bytes of the longest end of a reply, a clash of two texts of 65
 AGAIN, PROVES = 0, -1  # in place of a kind, where something was read past that may be asked for again, or as a proof
 LEAST = 0.2  # seconds until others are asked as well, at least
 MOST = 1.0  # and at most
@@ -138,9 +139,11 @@ class Shard(contextlib.AbstractAsyncContextManager["Shard"]):
 
     async def hear_one(self, reader: Source, request: Request) -> Reply:
         kept: dict[int, bytes] = {}
+        brings_parts = isinstance(request, bytes) and request[:1] in (bytes([READ]), bytes([SYMBOL]))
+        longest = self.shape.longest if brings_parts else LONGEST_END  # what is of no use takes no memory
         for _ in range(LONGEST_REPLY):
             basket = request.basket if isinstance(request, Asked) else None
-            sender, payload = await take_envelope(reader, self.shape.longest, basket)
+            sender, payload = await take_envelope(reader, longest, basket)
             if sender != self.number:
                 raise Fault(f"it says that it is shard {sender}: are the shards in their order?")
             if payload is PASSED or payload is OFFERED:

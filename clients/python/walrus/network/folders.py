@@ -5,7 +5,7 @@ import html
 import json
 import re
 import urllib.parse
-from typing import Any, AsyncIterator, Iterable, Optional, Union
+from typing import Any, AsyncIterator, Optional, Union
 
 from aiohttp import web
 
@@ -13,9 +13,10 @@ from .chunks import LONGEST, File, Told
 from .gathering import AT_ONCE, Costs, Storing, Upload
 from .guard import SAFE
 from .manifest import Manifest, Place, Wrong, as_path, kind_told, label_of, shown
-from .problems import Problem
+from .pieces import put_away
+from .problems import JSON, Problem
 from .publishing import Publisher, named
-from .reading import FOREVER, Reader
+from .reading import FOREVER, SLICE, Reader, send_text
 from .shelf import LISTS, Shelf
 from .turns import Turns, owner_of
 
@@ -23,12 +24,12 @@ OPEN = {"X-Content-Type-Options": "nosniff", "Referrer-Policy": "no-referrer"}
 SANDBOX = {**OPEN, "Content-Security-Policy": "sandbox allow-scripts allow-popups"}  # no page of the gateway's own
 OWN_HOST = {**OPEN, "Origin-Agent-Cluster": "?1"}  # nor does a site reach another one that is beside it
 PATHS = "/v1/folders/"
-MOST, LISTINGS = 10_000, 2  # lines of a listing; listings that are made at once
-PAGE = """<!DOCTYPE html><html lang="en"><head><meta charset="utf-8"><title>{title}</title>
+MOST, ROOM, LISTINGS = 10_000, 2_097_152, 2  # lines of a listing, and their bytes; listings that are made at once
+HTML = {"Content-Type": "text/html; charset=utf-8"}
+FRONT = """<!DOCTYPE html><html lang="en"><head><meta charset="utf-8"><title>{title}</title>
 <meta name="viewport" content="width=device-width"><style>body {{ font-family: sans-serif; margin: 2em }}
 td {{ padding: 0.1em 1em 0.1em 0 }} td + td {{ text-align: right }}</style></head>
 <body><h1>{title}</h1><table>
-{rows}</table>{more}</body></html>
 """
 
 
@@ -125,9 +126,16 @@ class Folders:
             del manifest  # which may be long: who takes a file of it slowly does not keep it
             return await self.send(request, place, headers)
         if is_folder and manifest.has(path):
-            async with self.listings.take(owner_of(request)):  # a long one takes a while, beside what others ask
-                made = asyncio.get_running_loop().run_in_executor
-                return await made(LISTS, listing, request, name, manifest, path, headers)
+            accepted = ",".join(request.headers.getall("Accept", []))
+            is_json = "application/json" in accepted and "text/html" not in accepted
+            headers = {**headers, **(JSON if is_json else HTML), "Cache-Control": "no-cache", "Vary": "Accept"}
+            owner = owner_of(request)
+            async with self.reader.sendings.take(owner):  # a long one is on the disk until it is sent, as a piece is
+                async with self.listings.take(owner):  # it takes a while, beside what others ask
+                    run = asyncio.get_running_loop().run_in_executor
+                    text = await run(LISTS, listing, name, manifest, path, is_json)
+                del manifest
+                return await send_text(request, text, headers)
         if manifest.has(f"{path}/") and not is_folder:
             return moved(raw.rpartition("/")[2], request)
         raise Problem(404, "the folder has no such file")
@@ -150,25 +158,26 @@ def moved(name: str, request: web.Request) -> web.Response:
     return web.Response(status=301, headers={**SANDBOX, "Location": place, "Cache-Control": "public, max-age=86400"})
 
 
-def listing(
-    request: web.Request, name: bytes, manifest: Manifest, folder: str, headers: dict[str, str]
-) -> web.Response:
-    """What is in a folder, as a page, or as JSON for who asks for that and for no page."""
-    found, is_whole = list[Union[str, Place]](), True
+def listing(name: bytes, manifest: Manifest, folder: str, is_json: bool) -> bytes:
+    """What is in a folder, as JSON or as a page; in a file, where it is long. A manifest may have names that take nine
+    times their bytes."""
+    lines, size, is_whole = list[bytes](), 0, True
     for it in manifest.within(folder):
-        if len(found) == MOST:
+        line = (json.dumps(entry(it, folder)) if is_json else row(it, folder)).encode()
+        size += len(line)
+        if len(lines) == MOST or size > ROOM:
             is_whole = False
             break
-        found.append(it)
-    accepted = ",".join(request.headers.getall("Accept", []))
-    headers = {**headers, "Cache-Control": "no-cache", "Vary": "Accept"}
-    if "application/json" in accepted and "text/html" not in accepted:
-        entries = [entry(it, folder) for it in found]
-        told = {"blobId": name.hex(), "folder": folder, "entries": entries, "complete": is_whole}
-        return web.Response(text=json.dumps(told) + "\n", content_type="application/json", headers=headers)
-    more = "" if is_whole else f"<p>The first {MOST} alone: the manifest names all.</p>"
-    text = PAGE.format(title=html.escape(f"/{folder}"), rows="".join(rows(found, folder)), more=more)
-    return web.Response(text=text, content_type="text/html", charset="utf-8", headers=headers)
+        lines.append(line)
+    if is_json:
+        told = json.dumps({"blobId": name.hex(), "folder": folder, "complete": is_whole})
+        text = f'{told[:-1]}, "entries": ['.encode() + b", ".join(lines) + b"]}\n"
+    else:
+        front = FRONT.format(title=html.escape(f"/{folder}"))
+        front += '<tr><td><a href="../">..</a></td><td></td></tr>\n' if folder else ""
+        more = "" if is_whole else f"<p>The first {len(lines)} alone: the manifest names all.</p>"
+        text = front.encode() + b"".join(lines) + f"</table>{more}</body></html>\n".encode()
+    return put_away(text) if len(text) > SLICE else text
 
 
 def entry(it: Union[str, Place], folder: str) -> dict[str, Any]:
@@ -179,10 +188,7 @@ def entry(it: Union[str, Place], folder: str) -> dict[str, Any]:
     return told | ({"offset": it.offset} if it.offset is not None else {})
 
 
-def rows(found: Iterable[Union[str, Place]], folder: str) -> Iterable[str]:
-    if folder:
-        yield '<tr><td><a href="../">..</a></td><td></td></tr>\n'
-    for it in found:
-        name = f"{it}/" if isinstance(it, str) else it.path[len(folder) :]  # noqa: E203
-        size = "" if isinstance(it, str) else f"{it.length:,}"
-        yield f'<tr><td><a href="./{urllib.parse.quote(name)}">{html.escape(name)}</a></td><td>{size}</td></tr>\n'
+def row(it: Union[str, Place], folder: str) -> str:
+    name = f"{it}/" if isinstance(it, str) else it.path[len(folder) :]  # noqa: E203
+    size = "" if isinstance(it, str) else f"{it.length:,}"
+    return f'<tr><td><a href="./{urllib.parse.quote(name)}">{html.escape(name)}</a></td><td>{size}</td></tr>\n'

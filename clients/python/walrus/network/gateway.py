@@ -23,9 +23,9 @@ from .guard import Guard
 from .listing import Lister
 from .notify import ready
 from .page import Watch
-from .problems import ALONE, Problem, as_json, ledger_away, problem_of
+from .problems import ALONE, FRESH, JSON, Problem, as_json, ledger_away, problem_of
 from .publishing import Publisher, expected, named
-from .reading import Reader
+from .reading import Reader, send_text
 from .shelf import Shelf
 from .sorting import Sorter
 from .times import HEADERS, Times
@@ -36,7 +36,6 @@ from .uploads import Uploads
 __all__ = ["Gateway", "Options", "ending", "serve"]
 MMAP_THRESHOLD = -3  # an option of the C library's mallopt
 sslproto.SSLProtocol.max_size = 65_536  # as at nodes
-FRESH = {**ALONE, "Cache-Control": "no-store"}
 POLICY = "default-src 'none'; style-src 'self'; script-src 'self'; connect-src 'self'; frame-ancestors 'none'"
 POLICY += "; form-action 'none'; base-uri 'none'"
 OWN = {**ALONE, "Content-Security-Policy": POLICY, "Cache-Control": "no-cache"}
@@ -184,9 +183,8 @@ class Gateway(Server):
     async def get_blob(self, request: web.Request) -> web.StreamResponse:
         return await self.reader.answer(request, named(request))
 
-    async def status(self, request: web.Request) -> web.Response:
-        text = self.watch.status_text().decode() + "\n"
-        return web.Response(text=text, content_type="application/json", headers=FRESH)
+    async def status(self, request: web.Request) -> web.StreamResponse:
+        return await send_text(request, self.watch.status_text(), FRESH | JSON)
 
     async def status_of(self, request: web.Request) -> web.Response:
         return as_json(self.watch.with_shards(named(request)))
@@ -209,7 +207,7 @@ class Gateway(Server):
         if away["stale"]:
             raise ledger_away(f"the ledger is away for {away['away']:.0f} s ({away['said']})")
 
-    async def metrics(self, request: web.Request) -> web.Response:
+    async def metrics(self, request: web.Request) -> web.StreamResponse:
         cache = self.reader.cache
         counts: dict[str, Any] = {"http_requests": self.requests, "http_bytes": self.reader.bytes}
         counts |= {"cache_hits": cache.hits, "blobs_read": cache.reads}
@@ -219,7 +217,7 @@ class Gateway(Server):
             told = self.watch.metrics(counts, {"cache_bytes": cache.size}, {"http_seconds": self.times})
         except ModuleNotFoundError as fault:
             raise Problem(501, f"{fault.name} is not here: install python3-prometheus-client") from None
-        return web.Response(body=told, headers=FRESH | HEADERS)
+        return await send_text(request, told, FRESH | HEADERS)
 
     async def rights(self, request: web.Request) -> web.Response:
         """What whoever asks may do here: for the page, which shows what can be done."""

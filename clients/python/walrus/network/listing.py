@@ -8,23 +8,25 @@ from .blobs import Blob, ending_of
 from .client import Network
 from .dates import date_of
 from .groups import all_of
-from .problems import Problem, as_json
-from .reading import Reader
+from .problems import FRESH, JSON, Problem, as_line
+from .reading import Reader, send_text
 from .shares import Charge
-from .shelf import LISTS, TOGETHER, Shelf
-from .turns import Turns, owner_of
+from .shelf import LISTS, MOST_BLOBS, TOGETHER, Many, Shelf
+from .turns import ASKING, Turns, owner_of
 
 PAGE, AT_ONCE = 1_000, 2  # blobs of a list that are told at once; lists that are made at once
 FEW = 50  # blobs that are told before others have their turn
+SHORT, LONG = 1_024, 2  # blobs of what is kept for longer beside any number of others; of what has more so many at once
 
 
 class Lister:
     """Tells which blobs there are, and keeps files for longer."""
 
     def __init__(self, network: Network, reader: Reader, shelf: Shelf):
-        self.network, self.reader, self.shelf, self.turns = network, reader, shelf, Turns(AT_ONCE)
+        self.network, self.reader, self.shelf = network, reader, shelf
+        self.turns, self.long = Turns(AT_ONCE), Turns(LONG)
 
-    async def list(self, request: web.Request) -> web.Response:
+    async def list(self, request: web.Request) -> web.StreamResponse:
         """Blobs in the order of their identifiers, behind one of them, that end within so many epochs."""
         ledger, after, within = (
             self.network.ledger,
@@ -36,16 +38,22 @@ class Lister:
         if not re.fullmatch("|[0-9a-f]{64}", after):
             raise Problem(400, "after is the identifier of a blob, or nothing")
         last, start = ledger.epoch + int(within), bytes.fromhex(after)
-        found = list[dict[str, object]]()
-        async with self.turns.take(owner_of(request)):
-            names = await ending(self.network, start, last)
-            for number, name in enumerate(names[:PAGE]):
-                found += [self.tell(name, blob)] if (blob := ledger.blobs.get(name)) else []
-                if number % FEW == 0:
-                    await asyncio.sleep(0)
-        told = {"epoch": ledger.epoch, "blobs": found}
+        owner = owner_of(request)
+        async with self.reader.sendings.take(owner):  # who reads none of his lists has few of them here
+            async with self.turns.take(owner):
+                text = await self.page(start, last)
+            return await send_text(request, text, FRESH | JSON)
+
+    async def page(self, after: bytes, last: int) -> bytes:
+        """A list as it is told."""
+        ledger, found = self.network.ledger, list[dict[str, object]]()
+        names = await ending(self.network, after, last)
+        for number, name in enumerate(names[:PAGE]):
+            found += [self.tell(name, blob)] if (blob := ledger.blobs.get(name)) else []
+            if number % FEW == 0:
+                await asyncio.sleep(0)
         more = names[PAGE - 1].hex() if len(names) > PAGE else None
-        return as_json({**told, "next": more})
+        return as_line({"epoch": ledger.epoch, "blobs": found, "next": more})
 
     def tell(self, name: bytes, blob: Blob) -> dict[str, object]:
         found = self.network.ledger.certificate(name)
@@ -56,9 +64,17 @@ class Lister:
     async def extend(self, name: bytes, epochs: int, charge: Charge) -> dict[str, object]:
         """Keeps a file or all of a folder, with all blobs of which it consists, for so many epochs from the writing one
         on, or longer."""
-        network, until = self.network, self.network.ledger.writing_epoch + epochs
         self.reader.must_stand(name)
-        size, names = await self.shelf.consists(name)
+        try:
+            return await self.keep(name, epochs, charge, SHORT)
+        except Many:
+            async with self.long.take(ASKING.get()):  # the names of all its blobs are in memory
+                return await self.keep(name, epochs, charge, MOST_BLOBS)
+
+    async def keep(self, name: bytes, epochs: int, charge: Charge, most: int) -> dict[str, object]:
+        """Keeps what has so many blobs at most."""
+        network, until = self.network, self.network.ledger.writing_epoch + epochs
+        size, names = await self.shelf.consists(name, most)
         short = list[bytes]()
         for number, piece in enumerate(names):  # of which anybody may list half a million
             self.reader.must_stand(piece)

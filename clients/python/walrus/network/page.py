@@ -20,7 +20,7 @@ from .groups import all_of
 from .ledger import ACK, ATTEST
 from .peers import FIGURES, Peers, Seat
 from .pieces import LEAST, Memory
-from .problems import NO_BLOB, Problem
+from .problems import NO_BLOB, Problem, as_line
 from .sorting import Sorter
 from .times import Times
 from .turns import ASKING, Turns
@@ -86,6 +86,7 @@ class Watch:
         self.held: "collections.Counter[str]" = collections.Counter()
         self.announced: Iterable[dict[str, Any]] = ()  # badly encoded blobs that were found, and what came of it
         self.told: tuple[float, bytes] = (-FRESH, b"")  # when the status was told last, and what it was
+        self.metered: tuple[float, bytes] = (-FRESH, b"")  # the same of the numbers
         self.task = asyncio.create_task(all_of([self.probe(), self.learn(), self.challenge_some()]))
 
     async def close(self) -> None:
@@ -251,14 +252,22 @@ class Watch:
         return told | {"state": state, "said": fault or "", "figures": self.figures.get(name, {})}
 
     def status_text(self) -> bytes:
-        """The status as JSON, made anew at most twice a second, however many ask."""
+        """The status as a line of JSON, made anew at most twice a second, however many ask."""
         now = time.monotonic()
         if now - self.told[0] > FRESH:
-            self.told = now, json.dumps(self.status()).encode()
+            self.told = now, as_line(self.status())
         return self.told[1]
 
     def metrics(self, counts: Mapping[str, Any], sizes: Mapping[str, Any], times: Mapping[str, Times]) -> bytes:
-        """Prometheus' text of the status and of more by name: what only grows, the rest, and how long things take."""
+        """Prometheus' text of the status and of more by name: what only grows, the rest, and how long things take. It is
+        made anew at most twice a second, too."""
+        now = time.monotonic()
+        if now - self.metered[0] > FRESH:
+            self.metered = now, self.meter(counts, sizes, times)
+        return self.metered[1]
+
+    def meter(self, counts: Mapping[str, Any], sizes: Mapping[str, Any], times: Mapping[str, Times]) -> bytes:
+        """The same, made anew."""
         from . import metrics  # here alone: it takes a while to load
 
         status = json.loads(self.status_text())

@@ -10,6 +10,8 @@ from .follower import Refused, Unreachable
 
 ALONE = {"X-Content-Type-Options": "nosniff", "Referrer-Policy": "no-referrer"}
 ALONE["Content-Security-Policy"] = "default-src 'none'; sandbox"  # a blob is no page of the gateway's own
+FRESH = {**ALONE, "Cache-Control": "no-store"}  # what is told now, and nothing keeps
+JSON = {"Content-Type": "application/json; charset=utf-8"}
 NO_BLOB = "no such blob is registered, or its time is over"
 BAD = "the blob was badly encoded by its writer: nobody can read it"
 
@@ -24,13 +26,18 @@ class Problem(Exception):
     def response(self) -> web.Response:
         body = {"error": {"status": self.status, "text": str(self), **self.more}}
         headers = {"Retry-After": "5"} if self.status == 503 else {}
-        return as_json(body, self.status, {**headers, **self.headers})
+        return as_json(body, self.status, {**headers, **self.headers, "Cache-Control": "no-store"})
 
 
 def as_json(value: Any, status: int = 200, headers: Optional[dict[str, str]] = None) -> web.Response:
     """A response that tells something as a line of JSON, and nothing keeps."""
-    words = {**ALONE, "Cache-Control": "no-store", **(headers or {})}
-    return web.Response(text=json.dumps(value) + "\n", content_type="application/json", status=status, headers=words)
+    words = {**FRESH, **JSON, **(headers or {})}
+    return web.Response(body=as_line(value), status=status, headers=words)
+
+
+def as_line(value: Any) -> bytes:
+    """The line of JSON that tells something."""
+    return json.dumps(value).encode() + b"\n"
 
 
 def problem_of(fault: Exception) -> Problem:

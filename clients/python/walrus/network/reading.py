@@ -5,7 +5,7 @@ import contextlib
 import itertools
 import secrets
 import sys
-from typing import AsyncIterator, Callable, Iterable, Optional, Union
+from typing import AsyncIterator, Callable, Iterable, Iterator, Optional, Union
 
 from aiohttp import web
 from .. import client
@@ -22,6 +22,7 @@ from .problems import ALONE, BAD, NO_BLOB, Problem
 from .turns import ASKING, PARTS, WAITING, Together, Turns, owner_of
 
 SLICE, KIND = 262_144, "application/octet-stream"
+PART = 65_536  # bytes of a text that go out at once
 BARE, READINGS = 73_400_320, 16  # bytes of a gateway that does nothing; blobs that are read at once, if memory allows
 AHEAD = 5  # pieces of a file that are read at once for who takes it
 SILENCE, SUMS = 30.0, 65_536  # seconds in which a slice must go out or anything come in; digests that are kept
@@ -173,15 +174,11 @@ class Reader:
                 break
         await response.prepare(request)
         pace = Pace(request.get("flow"))
-        try:
+        with ending_early(request):
             for head, span in zip(heads, spans):
                 await self.write(pace, response, head)
                 await self.send_span(pace, response, file, span, owner_of(request))
             await self.write(pace, response, heads[-1])
-        except (Problem, client.Failed, TimeoutError, OSError) as fault:
-            print(f"GET {request.path} ends early: {fault or 'its reader is slow'}", file=sys.stderr, flush=True)
-            if request.transport:
-                request.transport.abort()
         return response
 
     def read_ahead(self, pieces: Iterable[tuple[bytes, int, int, int]]) -> None:
@@ -241,6 +238,32 @@ class Pace:
         self.allowed += size / LEAST - (clock() - begun)
         if self.flow and size:
             await self.flow.spend(size)
+
+
+@contextlib.contextmanager
+def ending_early(request: web.Request) -> Iterator[None]:
+    """Ends the connection where a reply that has begun cannot go on."""
+    try:
+        yield
+    except (Problem, client.Failed, TimeoutError, OSError) as fault:
+        print(f"GET {request.path} ends early: {fault or 'its reader is slow'}", file=sys.stderr, flush=True)
+        if request.transport:
+            request.transport.abort()
+
+
+async def send_text(request: web.Request, text: bytes, headers: dict[str, str]) -> web.StreamResponse:
+    """Sends a text that may be long, in parts. Of one that is in a file, or that others have too, who does not read it
+    has no more in memory than the parts that were sent last."""
+    response = web.StreamResponse(headers={**headers, "Content-Length": str(len(text))})
+    await response.prepare(request)
+    pace = Pace(request.get("flow"))
+    with ending_early(request):
+        for place in range(0, len(text) if request.method == "GET" else 0, PART):
+            part = memoryview(text)[place : place + PART]  # noqa: E203
+            async with pace.next(len(part)):
+                await response.write(part)
+            let_go(text, place, place + len(part))
+    return response
 
 
 def tagged(fields: Iterable[str], tag: str) -> bool:

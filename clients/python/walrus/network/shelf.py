@@ -6,9 +6,9 @@ import dataclasses
 import functools
 import mmap
 import tempfile
-from typing import Iterator, Union
+from typing import Iterator, Sized, Union
 
-from .chunks import NAME, PIECE, File
+from .chunks import MOST_PIECES, NAME, PIECE, File
 from .manifest import MARK, MOST_BYTES, Foreign, Manifest, Place, Wrong
 from .pieces import to_the_end, write
 from .problems import Problem
@@ -18,9 +18,15 @@ from .turns import ASKING, Turns
 MOST, ROOM, SLIGHT = 128, 67_108_864, 65_536  # manifests that are kept, their bytes, and those that memory holds
 WAITING = 8  # who have one read at once, of which one is
 TOGETHER = 1_024  # blobs or files that are gone through before others have their turn
+MOST_BLOBS = MOST_PIECES + 1  # of what is kept for longer: those of the longest file
+MANY = f"it has more than {MOST_BLOBS:,} blobs: keep parts of it for longer, such as each file of a folder"
 NO_FOLDER = "the blob is no folder: read it under /v1/blobs"
 LISTS = concurrent.futures.ThreadPoolExecutor(5, "lists")  # of folders and of blobs, two of each, and one manifest that
 # is read: these take seconds, in which blobs are encoded by other threads
+
+
+class Many(Problem):
+    """A file or folder with more blobs than somebody wants to know."""
 
 
 @dataclasses.dataclass(frozen=True)
@@ -116,11 +122,13 @@ class Shelf:
             raise Problem(410, "the folder's manifest is false: this file has another length")
         return file if place.offset is None else Part(place.length, b"", file, place.offset)
 
-    async def consists(self, name: bytes) -> tuple[int, dict[bytes, None]]:
-        """The bytes of a file, or of all of a folder, and the blobs of which it consists."""
+    async def consists(self, name: bytes, most: int) -> tuple[int, dict[bytes, None]]:
+        """The bytes of a file, or of all of a folder, and the blobs of which it consists, all of which stand. Raises
+        `Many` where these are more than so many."""
         async with self.reader.blob(name) as blob:
             file, front = File.of(name, blob), bytes(blob[: len(MARK)])
-        found = dict.fromkeys([name]) | await blobs_of(file)
+        found = dict.fromkeys([name])
+        await self.add_blobs(found, file, most)
         if file.names != name and file.length <= MOST_BYTES:
             async with self.reader.blob(next(file.pieces(0, 1))[0]) as blob:
                 front = bytes(blob[: len(MARK)])
@@ -135,16 +143,29 @@ class Shelf:
         sizes = dict[bytes, int]()
         for number, place in enumerate(manifest):
             if place.length:
+                self.reader.must_stand(place.file)
                 sizes[place.file] = max(sizes.get(place.file, 0), (place.offset or 0) + place.length)
+                must_be_few(sizes, most)
             if number % TOGETHER == 0:
                 await asyncio.sleep(0)
         for other, size in sizes.items():
             found[other] = None
-            self.reader.must_stand(other)
+            must_be_few(found, most)
             if size > PIECE or await self.reader.lengths.of_file(other) is None:
                 async with self.reader.blob(other) as blob:
-                    found |= await blobs_of(File.of(other, blob))
+                    await self.add_blobs(found, File.of(other, blob), most)
         return file.length + sum(sizes.values()), found
+
+    async def add_blobs(self, found: dict[bytes, None], file: File, most: int) -> None:
+        """Adds the blobs of a file, each once it is known to stand: those that somebody invents take no memory. Of the
+        longest file it takes seconds, in which others have their turn."""
+        for number, (piece, _, _, _) in enumerate(file.pieces(0, file.length)):
+            if len(piece) == NAME:
+                self.reader.must_stand(piece)
+                found[piece] = None
+                must_be_few(found, most)
+            if number % TOGETHER == 0:
+                await asyncio.sleep(0)
 
     async def close(self) -> None:
         for task in self.kept.values():
@@ -152,12 +173,7 @@ class Shelf:
         await asyncio.gather(*self.kept.values(), return_exceptions=True)
 
 
-async def blobs_of(file: File) -> dict[bytes, None]:
-    """The blobs of a file; of the longest it takes a second, in which others have their turn."""
-    found = dict[bytes, None]()
-    for number, (piece, _, _, _) in enumerate(file.pieces(0, file.length)):
-        if len(piece) == NAME:
-            found[piece] = None
-        if number % TOGETHER == 0:
-            await asyncio.sleep(0)
-    return found
+def must_be_few(found: Sized, most: int) -> None:
+    """Raises where there are more blobs than so many."""
+    if len(found) > most:
+        raise Many(413, MANY)
