@@ -87,6 +87,14 @@ class Replies(unittest.IsolatedAsyncioTestCase):
                 self.assertEqual(str(caught.exception), fault)
             self.assertEqual(b"".join(shard.sent), client.envelope(self.read))
 
+    async def test_what_answers_a_store_is_short(self):
+        """Else a node that lies has some longest payloads in memory for each small blob that it is sent."""
+        clash, head = frames.write_frame(frames.Texts(b"a" * 65, b"b" * 65)), client.HEAD.pack(client.MARK, 0, 134)
+        for request in ([b"a blob"], frames.write_frame(client.Ack(NAME))):
+            self.assertEqual((await shard_that_says(clash).ask(request))[0].end, client.Clash(clash))
+            with self.assertRaisesRegex(ConnectionError, "^too long$"):
+                await SaidShard(head).ask(request)
+
     async def test_who_stops_waiting_leaves_the_shard_in_step(self):
         shard = SaidShard(b"")
         with self.assertRaises(TimeoutError):

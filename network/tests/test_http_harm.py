@@ -285,6 +285,7 @@ class Harm(GuardCase):
 
     async def test_who_takes_no_reply_is_let_go(self) -> None:
         self.enterContext(mock.patch.multiple(connections, GRACE=0.5, LEAST=10**9))
+        self.enterContext(mock.patch.object(reading, "SILENCE", 0.5))  # of what goes out in parts
         await self.start()
         for size in (9_000_000, 30_000):
             text = mock.patch.object(self.gateway.watch, "status_text", lambda: b'"' + b"x" * size + b'"')
@@ -406,7 +407,8 @@ class Harm(GuardCase):
         self.assertEqual([it for it in ran if "identifier >" in it and "until <=" in it], [])
         names, had = [bytes.fromhex(names[0])] * 1_000, [0]
         request: Any = mock.MagicMock(query={})
-        with mock.patch.object(listing, "ending", mock.AsyncMock(return_value=names)):
+        made = {"ending": mock.AsyncMock(return_value=names), "send_text": mock.AsyncMock()}
+        with mock.patch.multiple(listing, **made):
             making = asyncio.create_task(self.gateway.lister.list(request))
             while not making.done():
                 await asyncio.sleep(0)

@@ -259,8 +259,8 @@ class Watch:
         return self.told[1]
 
     def metrics(self, counts: Mapping[str, Any], sizes: Mapping[str, Any], times: Mapping[str, Times]) -> bytes:
-        """Prometheus' text of the status and of more by name: what only grows, the rest, and how long things take. It is
-        made anew at most twice a second, too."""
+        """Prometheus' text of the status and of more by name: what only grows, the rest, and how long things take. It
+        too is made anew at most twice a second."""
         now = time.monotonic()
         if now - self.metered[0] > FRESH:
             self.metered = now, self.meter(counts, sizes, times)
