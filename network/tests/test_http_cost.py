@@ -22,6 +22,10 @@ from walrus.network.manifest import MARK, Place
 
 
 class Unread(Coming):
+    async def asyncSetUp(self) -> None:
+        await super().asyncSetUp()
+        self.enterContext(mock.patch.multiple(reading, SILENCE=600.0, GRACE=600.0))  # so that who does not read stays
+
     async def unread(self, path: str, count: int) -> None:
         """Has so many connections ask for something of which they read nothing, and the system keeps little."""
         loop, there = asyncio.get_running_loop(), len(self.served())
