@@ -81,7 +81,9 @@ class Sorting(unittest.IsolatedAsyncioTestCase):
             found.__aexit__ = mock.AsyncMock(return_value=None)
             return found
 
-        return mock.Mock(stands=lambda name: name != b"n" * 32, lengths=mock.Mock(of_blob=of_blob), blob=blob)
+        made = mock.Mock(stands=lambda name: name != b"n" * 32, lengths=mock.Mock(of_blob=of_blob), blob=blob)
+        made.network.ledger.blobs = {name: Blob(9, "p") for name in blobs}
+        return made
 
     async def test_pieces_are_no_files(self) -> None:
         one, two, listed, plain, like = (bytes([number]) * 32 for number in range(1, 6))
@@ -98,12 +100,22 @@ class Sorting(unittest.IsolatedAsyncioTestCase):
         self.assertEqual(sorter.told(b"?" * 32), {"size": None, "pieces": None})
         self.assertEqual({*self.read}, {listed, like})  # what is no list by its length is not read
 
+    async def test_a_list_of_another_poster_hides_no_file(self) -> None:
+        """Else who loses a file could have that go unseen."""
+        file, other, own = (bytes([number]) * 32 for number in range(1, 4))
+        data = File(2**24 + 5, file + own).listed()
+        reader = self.reader({file: bytes(99), own: bytes(5), other: data})
+        reader.network.ledger.blobs |= {other: Blob(9, "q"), own: Blob(9, "q")}
+        sorter = sorting.Sorter(reader)
+        await sorter.learn([other])
+        self.assertEqual([*sorter.files([other, own, file])], [other, file])
+
     async def test_what_is_known_is_bounded(self) -> None:
         sorter = sorting.Sorter(self.reader({}))
         with mock.patch.object(sorting, "SORTED", 5), mock.patch.object(sorting, "PIECES", 8):
             for number in range(1, 30):
                 names = b"".join((number * 100 + it).to_bytes(32, "big") for it in range(3))
-                sorter.note(number.to_bytes(32, "big"), File(2**25 + number, names))
+                await sorter.note(number.to_bytes(32, "big"), File(2**25 + number, names))
         self.assertEqual((len(sorter.sizes), len(sorter.pieces)), (5, 8))
 
 

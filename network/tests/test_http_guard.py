@@ -579,6 +579,14 @@ class Logs(GuardCase):
         await self.certificate(context)
         good, after = await self.certificate(context)
         self.assertEqual((good, after != before), (True, True))
+        key, old = self.folder / "web.key", (self.folder / "web.key").read_bytes()
+        await make_certificate(self.folder, "web", by="authority-web")
+        new = key.read_bytes()
+        key.write_bytes(old)  # which does not fit the certificate yet
+        self.assertEqual(await self.certificate(context), (True, after))
+        key.write_bytes(new)
+        good, last = await self.certificate(context)
+        self.assertEqual((good, last not in (before, after)), (True, True))
 
     async def certificate(self, context: ssl.SSLContext) -> tuple[bool, bytes]:
         """Whether a fresh connection is taken, and the certificate that it shows."""

@@ -522,6 +522,7 @@ class Readings(unittest.IsolatedAsyncioTestCase):
         ledger.blobs.__getitem__.return_value = Blob(9, "publisher")
         listed = File(count * PIECE, b"".join(it.to_bytes(NAME, "big") for it in range(count))).listed()
         self.enterContext(mock.patch.object(self.reader.cache, "read", mock.AsyncMock(return_value=listed)))
+        self.enterContext(mock.patch.object(self.reader.lengths, "ask", mock.AsyncMock(return_value=PIECE)))
         extending = asyncio.create_task(self.lister.extend(b"listed".ljust(NAME), 5, mock.Mock()))
         while not extending.done():
             await asyncio.sleep(0)

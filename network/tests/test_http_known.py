@@ -10,10 +10,12 @@ import unittest
 from typing import Any
 from unittest import mock
 
+from folder_case import manifest_of
 from guard_case import GuardCase
 from walrus import client
 from walrus.network.heads import Lengths
 from walrus.network.chunks import File
+from walrus.network.manifest import Place
 from walrus.network.reading import Reader
 
 
@@ -141,6 +143,28 @@ class Known(GuardCase):
         alice = self.token("alice", blobs=1)
         found_ = [(await self.ask("POST", f"/v1/extend/{'0' * 64}?epochs=7", headers=alice))[0] for _ in range(2)]
         self.assertEqual((found_, len(asked)), ([200, 403], 1))
+
+    async def test_a_folder_that_is_kept_for_longer_counts_with_all_bytes_of_its_files(self) -> None:
+        """Whatever its manifest says, and a list of one piece."""
+        await self.start()
+        alice, name = self.token("alice", bytes=9_000), "00" * 32
+        places = Place("a", "a/b", 1, b"\1" * 32, 0), Place("b", "a/b", 1, b"\2" * 32, 0)
+        self.files = {name: manifest_of(*places), "01" * 32: bytes(6_000), "03" * 32: bytes(2_000)}
+        self.files["02" * 32] = File(1, b"\3" * 32).listed()
+
+        async def ask(name: bytes) -> int:
+            return len(self.files[name.hex()])
+
+        found = {bytes.fromhex(it): mock.Mock(until=3) for it in self.files}
+        self.enterContext(mock.patch.object(self.gateway.reader.lengths, "ask", ask))
+        self.enterContext(mock.patch.object(self.network, "register", mock.AsyncMock()))
+        self.enterContext(mock.patch.object(self.network.ledger, "blobs", found))
+        self.enterContext(mock.patch.object(self.gateway.lister, "tell", lambda *_: {}))
+        for status in (200, 403):
+            self.assertEqual((await self.ask("POST", f"/v1/extend/{name}?epochs=7", headers=alice))[0], status)
+            shares = self.gateway.publisher.shares
+            assert shares
+            self.assertEqual(shares.used("alice", 0), (len(self.files[name]) + 8_000, 4))
 
     async def test_a_list_of_equal_pieces_costs_no_more_than_its_bytes(self) -> None:
         await self.start()

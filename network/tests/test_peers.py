@@ -1,14 +1,19 @@
-"""What is stored at a node: who waits no more for it keeps nothing of it, and few large blobs are sent at once."""
+"""What is stored at a node: who waits no more for it keeps nothing of it, and few large blobs are sent at once; and the
+threads that look nodes up."""
 import asyncio
+import pathlib
+import re
+import ssl
 import types
 import unittest
 from typing import Any
 from unittest import mock
 
-import harness  # noqa: F401
+from harness import HERE
 from walrus import client, kinds
 from walrus.frames import answer
-from walrus.network.peers import LANES, LARGE, Seat
+from walrus.network import pieces, shelf
+from walrus.network.peers import FIGURES, LANES, LARGE, LOOKUPS, Peers, Seat
 
 
 class Wire:
@@ -100,3 +105,26 @@ class Storing(unittest.IsolatedAsyncioTestCase):
             self.assertEqual(await self.seat.store([b"a blob"]), "store at shard 2: unverified")
         with mock.patch.object(self.seat, "connection", side_effect=ConnectionRefusedError(111, "refused")):
             self.assertEqual(await self.seat.store([b"a blob"]), "connection refused")
+
+
+class Threads(unittest.IsolatedAsyncioTestCase):
+    async def test_a_node_that_no_thread_looks_up_is_at_fault_alone(self) -> None:
+        """Else a store would fail that others have taken, and a gateway end that asks its nodes."""
+        ledger: Any = types.SimpleNamespace(addresses={"node-2": ("node-2.example", 1)})
+        with mock.patch.object(ssl, "create_default_context"):
+            peers = Peers(ledger, pathlib.Path("authority.crt"), 30)
+        self.addAsyncCleanup(peers.close)
+        [seat] = peers.seats(["node-2"], 1)
+        said = "node-2.example cannot be looked up: can't start new thread"
+        with mock.patch.object(peers.pool, "submit", side_effect=RuntimeError("can't start new thread")):
+            self.assertEqual(await seat.store([b"a blob"]), said)
+            with self.assertRaisesRegex(ConnectionError, said):
+                await peers.told("node-2", FIGURES)
+
+    def test_a_gateway_has_all_of_its_threads(self) -> None:
+        """Those of what is encoded, of each asyncio's own and as many processes, on a machine of 128 processors; and
+        those that look up the nodes of its network, and of its page."""
+        told = re.search(r"^TasksMax=(\d+)$", (HERE.parent / "units/walrus-gateway@.service").read_text(), re.MULTILINE)
+        assert told
+        threads = 1 + 3 * 128 + pieces.THREADS + shelf.LISTS._max_workers + 2 * LOOKUPS
+        self.assertGreaterEqual(int(told[1]), threads)

@@ -223,6 +223,8 @@ class Certificate:
             if (state := self.look()) != self.state:
                 self.state = state
                 try:
+                    trial = ssl.SSLContext(ssl.PROTOCOL_TLS_SERVER)
+                    trial.load_cert_chain(*self.files)  # or one that does not fit would take the old key away
                     self.context.load_cert_chain(*self.files)
                 except (OSError, ValueError) as fault:
                     print(f"{self.files[0]} is not taken: {fault}", file=sys.stderr, flush=True)

@@ -132,7 +132,10 @@ class Peers:
         sought = self.sought.get(name)
         if not sought or sought.done():
             look = functools.partial(socket.getaddrinfo, host, port, type=socket.SOCK_STREAM)
-            sought = self.sought[name] = asyncio.get_running_loop().run_in_executor(self.pool, look)
+            try:
+                sought = self.sought[name] = asyncio.get_running_loop().run_in_executor(self.pool, look)
+            except RuntimeError as fault:  # the system gives no thread for it
+                raise ConnectionError(f"{host} cannot be looked up: {fault}") from None
             sought.add_done_callback(lambda it: it.cancelled() or it.exception())  # also where nobody waits any more
         return [str(it[4][0]) for it in await asyncio.shield(sought)]
 

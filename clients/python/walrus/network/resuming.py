@@ -85,9 +85,12 @@ class Sending:
 
     async def send(self, known: Known, epochs: int) -> Any:
         """Sends the file, or what a gateway lacks of it, until it is stored; nothing where it takes no such uploads."""
-        place, tries, last = await self.place_of(known, epochs), 0, -1
-        while place:
+        place, tries, last = "", 0, -1
+        while True:
             try:
+                place = place or await self.place_of(known, epochs)
+                if not place:
+                    return None
                 state = await self.look(place)
                 if state is None:
                     known.keep("")
@@ -99,8 +102,8 @@ class Sending:
             except (Broken, *BROKEN) as fault:
                 tries += 1
                 if tries == TRIES:
-                    said = str(fault) or type(fault).__name__
-                    text = f"{said}: it broke off {TRIES} times at byte {last}; the same command goes on from there"
+                    said, where = str(fault) or type(fault).__name__, f" at byte {last}" if last >= 0 else ""
+                    text = f"{said}: it broke off {TRIES} times{where}; the same command goes on from there"
                     raise Failure(text, 4) from fault
                 await asyncio.sleep(2**tries / 2)
 

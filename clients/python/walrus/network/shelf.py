@@ -132,13 +132,14 @@ class Shelf:
         if file.names != name and file.length <= MOST_BYTES:
             async with self.reader.blob(next(file.pieces(0, 1))[0]) as blob:
                 front = bytes(blob[: len(MARK)])
+        total = await self.size_of(name, file)
         if front != MARK:
-            return file.length, found
+            return total, found
         try:
             manifest = await self.manifest(name)
         except Problem as fault:
             if "manifest" in fault.more:  # it begins as one and is none, and so is an ordinary file
-                return file.length, found
+                return total, found
             raise
         sizes = dict[bytes, int]()
         for number, place in enumerate(manifest):
@@ -151,10 +152,23 @@ class Shelf:
         for other, size in sizes.items():
             found[other] = None
             must_be_few(found, most)
-            if size > PIECE or await self.reader.lengths.of_file(other) is None:
+            self.reader.must_stand(other)
+            length = None if size > PIECE else await self.reader.lengths.of_file(other)
+            if length is None:
                 async with self.reader.blob(other) as blob:
-                    await self.add_blobs(found, File.of(other, blob), most)
-        return file.length + sum(sizes.values()), found
+                    file = File.of(other, blob)
+                    await self.add_blobs(found, file, most)
+                length = await self.size_of(other, file)
+            total += length  # and not what the manifest says, in which anybody may write less
+        return total, found
+
+    async def size_of(self, name: bytes, file: File) -> int:
+        """The bytes that are kept for a file: the last piece of a list may be longer than the list says."""
+        if file.names == name:
+            return file.length
+        last, before = bytes(file.names[-NAME:]), len(file.names) // NAME - 1
+        self.reader.must_stand(last)
+        return max(file.length, before * PIECE + (await self.reader.lengths.of_blob(last) or 0))
 
     async def add_blobs(self, found: dict[bytes, None], file: File, most: int) -> None:
         """Adds the blobs of a file, each once it is known to stand: those that somebody invents take no memory. Of the

@@ -1,4 +1,5 @@
 """Which blobs are files of several pieces, and which are pieces: so that files are told, and not their pieces."""
+import asyncio
 import collections
 import random
 from typing import Any, Iterable
@@ -8,6 +9,7 @@ from .reading import Reader
 
 SORTED, PIECES = 10_000, 200_000  # files and pieces that are known at most
 AT_ONCE = 3  # blobs that are looked at in a row
+TOGETHER = 1_024  # pieces that are noted before others have their turn
 
 
 class Sorter:
@@ -15,11 +17,16 @@ class Sorter:
 
     def __init__(self, reader: Reader):
         self.reader, self.sizes = reader, collections.OrderedDict[bytes, tuple[int, int]]()
-        self.pieces: "collections.OrderedDict[bytes, None]" = collections.OrderedDict()
+        self.pieces: "collections.OrderedDict[bytes, bytes]" = collections.OrderedDict()  # and a list that names each
 
     def files(self, blobs: Iterable[bytes]) -> Iterable[bytes]:
         """Those that are no pieces, as far as is known."""
-        return (it for it in blobs if it not in self.pieces)
+        return (it for it in blobs if it not in self.pieces or not self.is_piece(it, self.pieces[it]))
+
+    def is_piece(self, identifier: bytes, listed: bytes) -> bool:
+        """Whether a blob that a list names is by the same poster: or anybody's list would hide the files of others."""
+        piece, file = map(self.reader.network.ledger.blobs.get, (identifier, listed))
+        return bool(piece and file and piece.poster == file.poster)
 
     def told(self, identifier: bytes) -> dict[str, Any]:
         size, pieces = self.sizes.get(identifier, (None, None))
@@ -37,15 +44,17 @@ class Sorter:
             if length > HEAD.size and not (length - HEAD.size) % NAME:
                 async with reader.blob(identifier) as blob:
                     file = File.of(identifier, blob)
-            self.note(identifier, file)
+            await self.note(identifier, file)
 
-    def note(self, identifier: bytes, file: File) -> None:
+    async def note(self, identifier: bytes, file: File) -> None:
         """What a blob turned out to be."""
         is_list = file.names != identifier
         for place in range(0, min(len(file.names), PIECES * NAME) if is_list else 0, NAME):
-            self.pieces[bytes(file.names[place : place + NAME])] = None  # noqa: E203
+            self.pieces.setdefault(bytes(file.names[place : place + NAME]), identifier)  # noqa: E203
+            if len(self.pieces) > PIECES:
+                self.pieces.popitem(last=False)
+            if place % (TOGETHER * NAME) == 0:
+                await asyncio.sleep(0)
         self.sizes[identifier] = file.length, len(file.names) // NAME
         while len(self.sizes) > SORTED:
             self.sizes.popitem(last=False)
-        while len(self.pieces) > PIECES:
-            self.pieces.popitem(last=False)

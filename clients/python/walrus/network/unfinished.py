@@ -230,10 +230,12 @@ class Unfinished:
         oldest_first = sorted(own, key=own.__getitem__)
         for lull in (UNHEARD, LULL):
             for name in oldest_first:
-                with contextlib.suppress(Problem):  # it has just gone
+                try:
                     may_go = now() >= own[name] + lull and (lull == LULL or self.find(name).offset == 0)
-                    if may_go and self.end(name):
-                        return True
+                except Problem:  # it has just gone
+                    return True
+                if may_go and self.end(name):
+                    return True
         return False
 
     def end(self, name: str) -> bool:
@@ -259,7 +261,13 @@ class Unfinished:
         return lock
 
     def find(self, name: str) -> Upload:
-        return Upload(self.folder / name, self.reserve)
+        """The upload of a name; raises `Problem` where there is none, or the power went before the disk had all of it,
+        which then is empty."""
+        try:
+            return Upload(self.folder / name, self.reserve)
+        except ValueError:
+            shutil.rmtree(self.folder / name, ignore_errors=True)
+            raise Problem(404, GONE) from None
 
     def drop(self, upload: Upload) -> None:
         shutil.rmtree(upload.folder, ignore_errors=True)
