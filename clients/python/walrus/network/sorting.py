@@ -17,7 +17,7 @@ class Sorter:
 
     def __init__(self, reader: Reader):
         self.reader, self.sizes = reader, collections.OrderedDict[bytes, tuple[int, int]]()
-        self.pieces: "collections.OrderedDict[bytes, bytes]" = collections.OrderedDict()  # and a list that names each
+        self.pieces: "collections.OrderedDict[bytes, bytes]" = collections.OrderedDict()  # and the list that names it
 
     def files(self, blobs: Iterable[bytes]) -> Iterable[bytes]:
         """Those that are no pieces, as far as is known."""
@@ -50,7 +50,7 @@ class Sorter:
         """What a blob turned out to be."""
         is_list = file.names != identifier
         for place in range(0, min(len(file.names), PIECES * NAME) if is_list else 0, NAME):
-            self.pieces.setdefault(bytes(file.names[place : place + NAME]), identifier)  # noqa: E203
+            self.pieces[bytes(file.names[place : place + NAME])] = identifier  # noqa: E203
             if len(self.pieces) > PIECES:
                 self.pieces.popitem(last=False)
             if place % (TOGETHER * NAME) == 0:
