@@ -24,7 +24,7 @@ class ReadingOrder(unittest.TestCase):
         self.assertEqual(faults_of(changed), ["DEFINITIONS.md names wal_gf/specs/Fields, which is not there"])
 
     def test_definitions_are_spelled_as_in_the_specs(self) -> None:
-        [fault] = faults_of(PAGE.replace("  pub differ : x ≢ y\n", "  pub differ : x ≡ y\n"))
+        [fault] = faults_of(PAGE.replace("  pub differ : one ≢ other\n", "  pub differ : one ≡ other\n"))
         self.assertIn("wal_tree/specs/Collision does not have these lines", fault)
         [fault] = faults_of(PAGE.replace("```antt wal_tree/specs/Collision\n", "```antt wal_tree/specs/Tree\n"))
         self.assertIn("wal_tree/specs/Tree does not have these lines", fault)
