@@ -342,7 +342,7 @@ class Harm(GuardCase):
 
         with mock.patch.object(shelf.tempfile, "TemporaryFile", opened):
             status, _, told = await self.ask("GET", f"/v1/folders/{name}/", headers={"Accept": "application/json"})
-        self.assertEqual((status, len(told["entries"]), len(wrote)), (200, 9_000, 1), told)
+        self.assertEqual((status, len(told["entries"]), len(wrote)), (200, 9_000, 2))  # the manifest, and the list
         self.assertNotIn(threading.main_thread().ident, wrote)
 
     async def test_long_lists_of_folders_are_made_beside_what_others_ask(self) -> None:
