@@ -43,14 +43,14 @@ class Shareless(NetworkCase):
             self.assertTrue(await network.until(lambda it: it.certificate(name) == (0, 4)), self.logs())
             await operator.recorders.post(entry_key(OPERATOR, "share", "node-0", 0))
             before = network.ledger.addresses["node-0"]
-            for node in ("node-0", "node-1"):  # the second one may tell where it is, at an address of IPv6
+            for node, host in (("node-0", "localhost"), ("node-1", "[::1]")):  # the second one may tell where it is
                 path, port = self.folder / f"{node}.toml", network.ledger.addresses[node][1]
                 await self.local.end(node)
-                configuration.write(Settings, path, configuration.values_of(path) | {"announced": f"[::1]:{port}"})
+                configuration.write(Settings, path, configuration.values_of(path) | {"announced": f"{host}:{port}"})
                 await self.local.start_node(node)
             self.assertTrue(await network.until(lambda it: it.addresses["node-1"][0] == "::1"), self.logs())
             async with asyncio.timeout(30):
-                while "node-0: the ledger does not take the address ::1:" not in self.log("node-0"):
+                while "node-0: the ledger does not take the address localhost:" not in self.log("node-0"):
                     await asyncio.sleep(0.1)
             self.assertEqual(network.ledger.addresses["node-0"], before)
             for node in ("node-1", "node-2"):
