@@ -9,6 +9,7 @@ import socket
 import sqlite3
 import tempfile
 import threading
+import time
 import types
 import unittest
 from typing import Any
@@ -33,24 +34,37 @@ NAMES = [bytes([number]) * 32 for number in range(10)]
 
 
 class Start(unittest.TestCase):
+    def setUp(self) -> None:
+        folder = self.enterContext(tempfile.TemporaryDirectory())
+        self.manager = self.enterContext(socket.socket(socket.AF_UNIX, socket.SOCK_DGRAM))
+        self.manager.bind(f"{folder}/notify")
+        self.manager.settimeout(30)
+        self.enterContext(mock.patch.dict(os.environ, {"NOTIFY_SOCKET": f"{folder}/notify"}))
+        self.enterContext(mock.patch.object(notify, "EACH", 0.01))
+
     def test_a_start_has_more_time_for_as_long_as_pages_are_checked(self) -> None:
         """Else the service manager ends it in the midst of them, and the next start too, where there are many."""
         heard, database = list[bytes](), Database("")
         self.addCleanup(database.close)
-        with tempfile.TemporaryDirectory() as folder, socket.socket(socket.AF_UNIX, socket.SOCK_DGRAM) as manager:
-            manager.bind(f"{folder}/notify")
-            manager.settimeout(30)
 
-            def execute(words: str) -> Any:
-                heard.extend(manager.recv(99) for _ in range(2))
-                return mock.Mock(fetchone=lambda: ("ok",))
+        def execute(words: str) -> Any:
+            heard.extend(self.manager.recv(99) for _ in range(2))
+            return mock.Mock(fetchone=lambda: ("ok",))
 
-            self.enterContext(mock.patch.dict(os.environ, {"NOTIFY_SOCKET": f"{folder}/notify"}))
-            self.enterContext(mock.patch.object(notify, "EACH", 0.01))
-            with mock.patch.object(database, "base", mock.Mock(execute=execute)):
-                database.must_be_whole()
+        with mock.patch.object(database, "base", mock.Mock(execute=execute)):
+            database.must_be_whole()
         self.assertEqual(heard, [b"EXTEND_TIMEOUT_USEC=300000000"] * 2)
         self.assertNotIn("extend", [it.name for it in threading.enumerate()])
+
+    def test_a_service_manager_that_hears_nothing_holds_up_no_start(self) -> None:
+        with socket.socket(socket.AF_UNIX, socket.SOCK_DGRAM) as other, contextlib.suppress(BlockingIOError):
+            other.setblocking(False)
+            while True:
+                other.sendto(b"x", self.manager.getsockname())
+        begun = time.monotonic()
+        with notify.extending():
+            time.sleep(0.1)
+        self.assertLess(time.monotonic() - begun, 30)
 
 
 class DiskCase(unittest.IsolatedAsyncioTestCase):

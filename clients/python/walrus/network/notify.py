@@ -49,7 +49,7 @@ def extending() -> Iterator[None]:
         yield
     finally:
         over.set()
-        thread.join()
+        thread.join(1)  # and no longer, as a service manager that hears nothing holds it up
 
 
 def ready(text: str) -> None:
