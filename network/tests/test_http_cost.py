@@ -119,6 +119,7 @@ class Longer(unittest.IsolatedAsyncioTestCase):
         self.reader = reading.Reader(mock.Mock(ledger=ledger, register=self.register), Options())
         self.addAsyncCleanup(self.reader.close)
         self.enterContext(mock.patch.object(self.reader.cache, "read", self.fetch))
+        self.enterContext(mock.patch.object(self.reader.lengths, "of_blob", mock.AsyncMock(return_value=PIECE)))
         self.shelf = shelf.Shelf(self.reader)
         self.addAsyncCleanup(self.shelf.close)
         self.lister = listing.Lister(self.reader.network, self.reader, self.shelf)
