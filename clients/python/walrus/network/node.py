@@ -47,12 +47,12 @@ class Node(View):
 
     def __init__(self, settings: Settings):
         self.settings, self.name, authority = settings, settings.name, pathlib.Path(settings.authority)
+        spare = max(0, settings.memory - settings.kept - BARE)  # and before any thread has memory of its own:
+        self.judges, self.repairs = Judges(settings.program, 2 * spare // 3), Room(spare // 3)
         self.store = Store(pathlib.Path(settings.database), settings.recorded, self.fail)
         recorders = Recorders(settings.recorders, settings.authority, settings.certificate, settings.key)
         path = self.store.path.with_suffix(".ledger")
         super().__init__(recorders, State.open(str(path), LAST_EPOCH if settings.recorded else TAIL, PAGES))
-        spare = max(0, settings.memory - settings.kept - BARE)
-        self.judges, self.repairs = Judges(settings.program, 2 * spare // 3), Room(spare // 3)
         self.peers, self.sides = Peers(self.ledger, authority, 20), dict[int, dict[int, Shard]]()
         self.failed: "asyncio.Future[None]" = asyncio.get_running_loop().create_future()
         self.port = NodePort(self, Bounds(settings.connections, REQUEST, IDLE, settings.kept))
