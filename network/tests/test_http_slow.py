@@ -20,6 +20,7 @@ from walrus import client
 from walrus.frames import answer
 from walrus.network import chunks, peers, reading, shard, whole
 from walrus.network.gateway import Options
+from walrus.shards import LONGEST_END
 
 SLOW, STEP = 16, 4_096  # clients; bytes that each moves in a tenth of a second
 LONG, ENOUGH = 1_200.0, 300.0  # seconds for which who is slow is waited for, and in which a test ends else
@@ -181,14 +182,14 @@ class Slow(GatewayCase):
 
     @contextlib.asynccontextmanager
     async def in_place_of(self, node: str, drips: bool) -> AsyncIterator[None]:
-        """A port where a node was, which takes connections: it says a byte of a long reply now and then, or nothing."""
+        """A port where a node was, which takes connections: it says a byte of a reply now and then, or nothing."""
         await self.local.end(node, kill=True)
 
         async def connect(reader: asyncio.StreamReader, writer: asyncio.StreamWriter) -> None:
             with contextlib.suppress(OSError):
-                for byte in itertools.chain(client.HEAD.pack(client.MARK, 3, 5_000_000), itertools.repeat(0)):
+                for byte in itertools.chain(client.HEAD.pack(client.MARK, 3, LONGEST_END), itertools.repeat(0)):
                     writer.write(bytes([byte]) if drips else b"")
-                    await asyncio.sleep(0.1)
+                    await asyncio.sleep(3)  # so that it does not end before the test does
                     if writer.transport.is_closing():
                         break
 
