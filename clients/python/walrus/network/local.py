@@ -18,7 +18,7 @@ from .groups import all_of
 from .ledger import OPERATOR
 from .machine import AUTHORITY, ETCD_AUTHORITY, Machine, Place
 
-LONGEST_START = 600  # seconds in which a node with 1 GiB on its disk feeds all of it
+LONGEST_START = 600  # seconds in which a node has its pages checked and listens
 TRIM = {"MALLOC_MMAP_THRESHOLD_": "65536", "GLIBC_TUNABLES": "glibc.malloc.hugetlb=1"}  # as walrus-net has them
 HOST = "127.0.0.1"
 
