@@ -16,8 +16,8 @@ use Rattle.wal_bundle.specs.Columns.{AreColumns, IsColumn, IsFirstMissing, IsMis
 unfoldable pub count_in : List ℕ → ℕ
 count_in bytes = from_be_bytes w16 (take 2 bytes)
 
--- columns begin with the index of members of these lengths, at most twice as many as faults, and
--- the is the least size of a symbol for which these have room
+-- columns begin with the index of members of these lengths, at most twice as many as faults, for
+-- symbols of the least size with which these have room
 pub record IsIndex (f cell_size : ℕ) (columns lengths : List ℕ) : Type 0 where
   pub few : length lengths ≤ 2 * f
   pub size : IsBundleSize f lengths cell_size

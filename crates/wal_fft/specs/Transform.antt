@@ -66,4 +66,4 @@ pub record WasAdded (f : ℕ → ℕ) (from : ℕ) (old new : List ℕ) : Type 0
 
 -- a factor times each word of the source
 abbrev pub scaled : ℕ → List ℕ → ℕ → ℕ
-scaled coefficients source place = times coefficients (word_at source place)
+scaled factor source place = times factor (word_at source place)

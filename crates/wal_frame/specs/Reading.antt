@@ -206,8 +206,8 @@ request_at kind bytes =
     else (if kind == 0x30 then answer_at bytes
     else (if kind == 0x31 then clash_at bytes
     else (if kind == 0x40 then register_at bytes
-    else (if kind == 0x41 then made (λ fault. AckEntry fault.0 fault.1) (entry_at bytes)
-    else (if kind == 0x42 then made (λ fault. AttestEntry fault.0 fault.1) (entry_at bytes)
+    else (if kind == 0x41 then made (λ pair. AckEntry pair.0 pair.1) (entry_at bytes)
+    else (if kind == 0x42 then made (λ pair. AttestEntry pair.0 pair.1) (entry_at bytes)
     else Err BadKind)))))))))
 
 -- the frame of this kind, or the first fault

@@ -38,8 +38,8 @@ front_of (Some pair) others = behind (pair.0 ∷ []) (7 + length pair.0) (others
 -- the payloads of a stream of at most n envelopes, or the place where no whole envelope begins
 unfoldable pub payloads_in : ℕ → List ℕ → Result (List (List ℕ)) ℕ
 payloads_in n [] = Ok []
-payloads_in zero (second ∷ bytes) = Err 0
-payloads_in (suc n) (second ∷ bytes) = front_of (envelope_at (second ∷ bytes)) (payloads_in n)
+payloads_in zero (byte ∷ bytes) = Err 0
+payloads_in (suc n) (byte ∷ bytes) = front_of (envelope_at (byte ∷ bytes)) (payloads_in n)
 
 -- the payloads of a stream, or the place where no whole envelope begins
 abbrev pub stream_of : List ℕ → Result (List (List ℕ)) ℕ

@@ -6,7 +6,7 @@ use Rattle.wal_gf.specs.Polynomial.{evaluate}
 
 -- the numbers of a list of field elements
 abbrev pub words_of : List Gf → List ℕ
-words_of elements = map (λ (factor : Gf). factor.0) elements
+words_of elements = map (λ (element : Gf). element.0) elements
 
 -- the polynomial has the i-th value at the i-th point
 abbrev pub HasValues : List ℕ → List ℕ → List ℕ → Type 0

@@ -30,7 +30,7 @@ pub record Facts (rules : Rules) (world : World) : Type 0 where
   -- the ledger's epochs come one after the other; no entry is of a later epoch than the writing
   -- one, and all after the last Begin are of that one
   pub orderly : IsOrderly world.log
-  pub none_ahead : All (λ payload. payload.epoch ≤ writing world.log) world.log.entries
+  pub none_ahead : All (λ made. made.epoch ≤ writing world.log) world.log.entries
   pub since_begin : All (IsMadeSince (writing world.log)) (phase world.log).since
   -- all shards of one node are faulty, or none is
   pub closed : (side : Side) (shard other : ℕ) → is_present side world ≡ true

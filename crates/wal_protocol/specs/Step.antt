@@ -186,8 +186,8 @@ SendCollides rules old side shard bytes new =
 -- every shard of this one's node, by these owners, passes
 abbrev pub NodeAll : World → List ℕ → ℕ → (ℕ → Type 0) → Type 0
 NodeAll world owners shard P =
-    (told_shard : ℕ) → told_shard < committee_size world.log.f
-    → same_node owners shard told_shard ≡ true → P told_shard
+    (other : ℕ) → other < committee_size world.log.f
+    → same_node owners shard other ≡ true → P other
 
 -- the node of the shard may say so: the shard is faulty, or each shard of its node holds what backs
 -- it
@@ -195,15 +195,15 @@ abbrev pub MayPost : World → Kind → ℕ → BlobId → Type 0
 MayPost world kind shard id =
     is_correct (writing_side world) world shard ≡ true
     → NodeAll world (owners_of Next world.log) shard
-    (λ told_shard. backs kind (held (side_of (writing_side world) world) told_shard id) ≡ true)
+    (λ other. backs kind (held (side_of (writing_side world) world) other id) ≡ true)
 
 -- the shard is correct, and some shard of its node does not
 abbrev pub Declines : World → Kind → ℕ → BlobId → Type 0
 Declines world kind shard id =
     (is_correct (writing_side world) world shard ≡ true)
-    × (told_shard : ℕ) × (told_shard < committee_size world.log.f)
-    × (same_node (owners_of Next world.log) shard told_shard ≡ true)
-    × (backs kind (held (side_of (writing_side world) world) told_shard id) ≡ false)
+    × (other : ℕ) × (other < committee_size world.log.f)
+    × (same_node (owners_of Next world.log) shard other ≡ true)
+    × (backs kind (held (side_of (writing_side world) world) other id) ≡ false)
 
 -- it said so before
 abbrev pub SaidBefore : World → Kind → ℕ → BlobId → Type 0
@@ -295,10 +295,10 @@ pub data ReadCollides (rules : Rules) (old : World)
 
 -- the payloads of a reply to a shard that recovers its sliver of an axis
 abbrev pub IsReplyOf : Rules → World → BlobId → Axis → ℕ → Reply → List (List ℕ) → Type 0
-IsReplyOf rules world id axis shard (reply.True side told_shard) payloads =
-    cond (is_correct side world told_shard)
-    (rules.IsSymbolReply id told_shard
-    (held (side_of side world) told_shard id) axis shard payloads)
+IsReplyOf rules world id axis shard (reply.True side helper) payloads =
+    cond (is_correct side world helper)
+    (rules.IsSymbolReply id helper
+    (held (side_of side world) helper id) axis shard payloads)
     (payloads ≡ [])
 IsReplyOf rules world id axis shard (reply.Bytes bytes) payloads = payloads ≡ bytes ∷ []
 
@@ -418,10 +418,10 @@ MayBeReady world shard =
 -- the shard is correct, and some shard of its node does not hold all
 abbrev pub IsUnready : World → ℕ → Type 0
 IsUnready world shard =
-    (is_correct Next world shard ≡ true) × (told_shard : ℕ)
-    × (told_shard < committee_size world.log.f)
-    × (same_node (owners_of Next world.log) shard told_shard ≡ true)
-    × (HoldsAll world told_shard → ⊥)
+    (is_correct Next world shard ≡ true) × (other : ℕ)
+    × (other < committee_size world.log.f)
+    × (same_node (owners_of Next world.log) shard other ≡ true)
+    × (HoldsAll world other → ⊥)
 
 -- A SHARD OF THE NEXT COMMITTEE IS READY
 abbrev pub ReadyStep : World → ℕ → ReadyWord → World → Type 0

@@ -19,7 +19,7 @@ Possible P = (P → ⊥) → ⊥
 
 -- each number is a byte's; past the end of a list 0 is read
 abbrev pub AreBytes : List ℕ → Type 0
-AreBytes text = (id : ℕ) → slice_index text id < 256
+AreBytes text = (place : ℕ) → slice_index text place < 256
 
 -- what a reply carries are bytes
 abbrev pub ReplyHasBytes : Reply → Type 0

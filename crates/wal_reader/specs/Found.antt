@@ -11,14 +11,14 @@ abbrev pub Finds : (List ℕ → List ℕ) → List ℕ → List (List ℕ) → 
 Finds digest id payloads Absent =
     (metadata : BlobMetadata) → HasMetadata digest id payloads metadata → ⊥
 Finds digest id payloads (One metadata) = IsMetadataIn digest id payloads (metadata_shown metadata)
-Finds digest id payloads (Two one byte) =
+Finds digest id payloads (Two one other) =
     HasMetadata digest id payloads (metadata_shown one)
-    × HasMetadata digest id payloads (metadata_shown byte)
-    × (metadata_shown one ≢ metadata_shown byte)
+    × HasMetadata digest id payloads (metadata_shown other)
+    × (metadata_shown one ≢ metadata_shown other)
 
 -- of two that differ, the first one, and the first that differs from it
 abbrev pub AreFirst : (List ℕ → List ℕ) → List ℕ → List (List ℕ) → FoundMetadata → Type 0
 AreFirst digest id payloads Absent = ⊤
 AreFirst digest id payloads (One metadata) = ⊤
-AreFirst digest id payloads (Two one byte) =
-    AreFirstTwo digest id payloads (metadata_shown one) (metadata_shown byte)
+AreFirst digest id payloads (Two one other) =
+    AreFirstTwo digest id payloads (metadata_shown one) (metadata_shown other)

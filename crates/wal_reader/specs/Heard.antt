@@ -18,7 +18,7 @@ use Rattle.wal_reader.specs.Outcome.{AreFirstTwo, Collects, HasMetadata, IsFirst
 abbrev pub CarriesNoPart : List ℕ → List ℕ → Type 0
 CarriesNoPart id payload =
     ((index : ℕ) (bytes : List ℕ) → read_of payload ≡ Ok (Sliver id Primary index bytes) → ⊥)
-    × ((other : EncodingProof) → CarriesProof id payload other → ⊥)
+    × ((proof : EncodingProof) → CarriesProof id payload proof → ⊥)
 
 -- the parts are the payloads without those that carry neither
 pub data Sifts (id : List ℕ) : List (List ℕ) → List (List ℕ) → Type 0 where
@@ -33,8 +33,8 @@ pub data Sifts (id : List ℕ) : List (List ℕ) → List (List ℕ) → Type 0 
 -- the first bad proof, where there is one
 abbrev pub IsProofFound : (List ℕ → List ℕ) → List ℕ → BlobMetadata → List (List ℕ)
     → Option EncodingProof → Type 0
-IsProofFound digest id metadata payloads (Some other) =
-    IsFirstBadProof digest id metadata payloads other
+IsProofFound digest id metadata payloads (Some proof) =
+    IsFirstBadProof digest id metadata payloads proof
 IsProofFound digest id metadata payloads None = NoBadProof digest id metadata payloads
 
 -- as many slivers are held as are needed

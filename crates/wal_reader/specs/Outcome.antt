@@ -179,7 +179,7 @@ IsVerdict (Collision clash) = ⊥
 
 -- one outcome; the texts of two collisions are not compared
 abbrev pub SameOutcome : Outcome → Outcome → Type 0
-SameOutcome (Collision one) (Collision byte) = Unit {0}
+SameOutcome (Collision one) (Collision other) = Unit {0}
 SameOutcome one other = one ≡ other
 
 -- no other outcome is that of the payloads

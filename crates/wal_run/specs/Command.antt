@@ -45,7 +45,7 @@ Content schedule = Schedule
 Content nothing = ⊤
 
 -- the input spells this
-abbrev pub Spells : (List ℕ → List ℕ) → (spelling : Grammar) → List ℕ → Content spelling → Type 0
+abbrev pub Spells : (List ℕ → List ℕ) → (grammar : Grammar) → List ℕ → Content grammar → Type 0
 Spells digest bytes input content = content ≡ input
 Spells digest envelopes input payloads = IsStream payloads input
 Spells digest (envelopes_of id) input content =

@@ -43,24 +43,24 @@ whole_of most value = do
 
 -- a whole number of at most `most` under a key
 abbrev pub whole_at : ℕ → List ℕ → Data → Option ℕ
-whole_at most key json = do
-  value ← get key json
+whole_at most key object = do
+  value ← get key object
   whole_of most value
 
 -- the number of a shard
 abbrev pub shard_at : Data → Option ℕ
-shard_at value = whole_at 65535 (codes "shard") value
+shard_at object = whole_at 65535 (codes "shard") object
 
 -- a text under a key
 abbrev pub text_at : List ℕ → Data → Option (List ℕ)
-text_at key json = do
-  value ← get key json
+text_at key object = do
+  value ← get key object
   as_str value
 
 -- bytes in hexadecimal digits of either case
 abbrev pub bytes_at : List ℕ → Data → Option (List ℕ)
-bytes_at key value = do
-  text ← text_at key value
+bytes_at key object = do
+  text ← text_at key object
   result_ok (decode_of text)
 
 -- an identifier of these bytes
@@ -69,25 +69,25 @@ to_id bytes = record { 0 = bytes }
 
 -- an identifier in 64 hexadecimal digits
 abbrev pub id_at : Data → Option BlobId
-id_at value = do
-  text ← text_at (codes "id") value
+id_at object = do
+  text ← text_at (codes "id") object
   bytes ← result_ok (decode_sized text 32)
   Some (to_id bytes)
 
 -- one of two things, each with its name
 abbrev pub either_at : {A : Type 0} → List ℕ → List ℕ → A → List ℕ → A → Data → Option A
-either_at key left one right other value = do
-  text ← text_at key value
+either_at key left one right other object = do
+  text ← text_at key object
   if bytes_eq text left then Some one else (if bytes_eq text right then Some other else None)
 
 -- a side, by its word
 abbrev pub side_at : Data → Option Side
-side_at value = either_at (codes "at") (codes "now") Now (codes "next") Next value
+side_at object = either_at (codes "at") (codes "now") Now (codes "next") Next object
 
 -- an axis, by its word
 abbrev pub axis_at : Data → Option Axis
-axis_at value =
-    either_at (codes "axis") (codes "primary") Primary (codes "secondary") Secondary value
+axis_at object =
+    either_at (codes "axis") (codes "primary") Primary (codes "secondary") Secondary object
 
 -- numbers of 16 bits, one after the other
 abbrev pub numbers_of : Items → Option (List ℕ)
@@ -99,12 +99,12 @@ numbers_of (item value values) = do
 
 -- a list under a key
 abbrev pub items_at : List ℕ → Data → Option Items
-items_at key json = do
-  value ← get key json
+items_at key object = do
+  value ← get key object
   as_array value
 
 -- a list of numbers of 16 bits under a key
 abbrev pub list_at : List ℕ → Data → Option (List ℕ)
-list_at key value = do
-  items ← items_at key value
+list_at key object = do
+  items ← items_at key object
   numbers_of items

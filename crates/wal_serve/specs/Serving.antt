@@ -51,7 +51,7 @@ pub data Serves {C : Type 0} (Answer : Table C) (room limit : ℕ) (fresh : C) (
       → frames ≡ before ++ clash_text clash ∷ []
       → Serves Answer room limit fresh taken AtEnd
       SourceRose SinkRose frames state (Collision clash)
-  wrong : (front : List ℕ) (second : ℕ) → taken ≡ front ++ second ∷ [] → (second ≡ 0x57 → ⊥)
+  wrong : (front : List ℕ) (byte : ℕ) → taken ≡ front ++ byte ∷ [] → (byte ≡ 0x57 → ⊥)
       → Served Answer room fresh front frames None state → length taken ≤ limit
       → Serves Answer room limit fresh taken AtEnd SourceRose
       SinkRose frames state (Malformed (length front))
@@ -59,7 +59,7 @@ pub data Serves {C : Type 0} (Answer : Table C) (room limit : ℕ) (fresh : C) (
       → Served Answer room fresh front frames None state → length taken ≤ limit → AtEnd
       → Serves Answer room limit fresh taken AtEnd SourceRose
       SinkRose frames state (Malformed (length front))
-  too_long : (front rest : List ℕ) (second : ℕ) → taken ≡ front ++ (rest ++ second ∷ [])
+  too_long : (front rest : List ℕ) (byte : ℕ) → taken ≡ front ++ (rest ++ byte ∷ [])
       → IsPart rest
       → Served Answer room fresh front frames None state → length taken ≡ limit + 1
       → Serves Answer room limit fresh taken AtEnd SourceRose SinkRose frames state TooLong

@@ -36,10 +36,10 @@ use Rattle.wal_served.specs.Steps.{TellsWant}
 -- the identifier that a frame is about: of a metadata its own, of what names one that one, and of
 -- an answer none
 abbrev pub about : (List ℕ → List ℕ) → Frame → Option BlobId
-about digest (Metadata other) = Some (put_id digest (Metadata other))
+about digest (Metadata metadata) = Some (put_id digest (Metadata metadata))
 about digest (Sliver id axis index bytes) = Some (named id)
 about digest (Opening id axis index opening) = Some (named id)
-about digest (Proof id other) = Some (named id)
+about digest (Proof id proof) = Some (named id)
 about digest (Read id) = Some (named id)
 about digest (Symbol id axis index) = Some (named id)
 about digest (Ack id) = Some (named id)

@@ -68,8 +68,8 @@ pub record IsDesk (state : ServedState) : Type 0 where
   pub place : state.shard.index < committee_size state.shard.f
   pub faults : state.ledger.log.f ≡ state.shard.f
   pub serves : is_moving state.ledger.log ≡ false
-  pub owners : (turn : ℕ) → turn < committee_size state.shard.f
-      → node_of (owners_of Now state.ledger.log) turn ≡ turn
+  pub owners : (shard : ℕ) → shard < committee_size state.shard.f
+      → node_of (owners_of Now state.ledger.log) shard ≡ shard
 
 -- ---- what a payload is
 

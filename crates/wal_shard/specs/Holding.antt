@@ -17,9 +17,9 @@ use Rattle.wal_frame.specs.Frame as frame
 use Rattle.wal_frame.specs.Frame.{frame_text, metadata_frame, sliver_frame}
 
 -- the parts hold this metadata
-pub record HoldsMetadata (parts : Parts) (other : BlobMetadata) : Type 0 where
-  pub fit : IsMetadata other
-  pub spelled : parts.metadata ≡ Some (metadata_text other)
+pub record HoldsMetadata (parts : Parts) (metadata : BlobMetadata) : Type 0 where
+  pub fit : IsMetadata metadata
+  pub spelled : parts.metadata ≡ Some (metadata_text metadata)
 
 -- whether metadata and both slivers are held
 abbrev pub settled_by_slivers : Parts → Bool
@@ -39,16 +39,18 @@ settled parts = settled_by_slivers parts || has_proof parts
 pub record IsSound (digest : List ℕ → List ℕ) (f : ℕ)
     (id : List ℕ) (shard : ℕ) (parts : Parts) : Type 0 where
   pub metadata : (bytes : List ℕ) → parts.metadata ≡ Some bytes
-      → (other : BlobMetadata) × HoldsMetadata parts other × Commits digest id other × (other.f ≡ f)
+      → (described : BlobMetadata) × HoldsMetadata parts described × Commits digest id described
+      × (described.f ≡ f)
   pub alone : parts.metadata ≡ None
       → (parts.primary ≡ None) × (parts.secondary ≡ None) × (parts.proof ≡ None)
-  pub slivers : (axis : Axis) (other : BlobMetadata) (bytes : List ℕ) → HoldsMetadata parts other
+  pub slivers : (axis : Axis) (described : BlobMetadata) (bytes : List ℕ)
+      → HoldsMetadata parts described
       → part_of parts (sliver_part axis) ≡ Some bytes
-      → HoldsSliver digest other axis (held_index other.format other.f axis shard) bytes
-  pub proof : (other : BlobMetadata) (bytes : List ℕ) → HoldsMetadata parts other
+      → HoldsSliver digest described axis (held_index described.format described.f axis shard) bytes
+  pub proof : (described : BlobMetadata) (bytes : List ℕ) → HoldsMetadata parts described
       → parts.proof ≡ Some bytes
       → (held_proof : EncodingProof) × IsProof held_proof × (bytes ≡ proof_text held_proof)
-      × IsBadProof digest other held_proof
+      × IsBadProof digest described held_proof
 
 -- one payload where a part is held, and none where it is not
 abbrev pub payload_if : Option (List ℕ) → (List ℕ → List ℕ) → List (List ℕ)

@@ -12,15 +12,16 @@ use Rattle.wal_frame.specs.Frame.{Frame, Metadata, Sliver}
 
 -- the frame of the sliver of an axis that a shard holds
 abbrev pub sliver_for : BlobMetadata → List ℕ → List ℕ → Axis → ℕ → Frame
-sliver_for other id extended axis shard =
-    let index = held_index other.format other.f axis shard in
-    Sliver id axis index (sliver_of axis other.f (symbol_size other.f other.length) extended index)
+sliver_for metadata id extended axis shard =
+    let index = held_index metadata.format metadata.f axis shard in
+    Sliver id axis index
+    (sliver_of axis metadata.f (symbol_size metadata.f metadata.length) extended index)
 
 -- an honest writer's frames for a shard: the metadata, and the two slivers that it holds
 abbrev pub message_to : BlobMetadata → List ℕ → List ℕ → ℕ → List Frame
-message_to other id extended shard =
-    Metadata other ∷ sliver_for other id extended Primary shard
-    ∷ sliver_for other id extended Secondary shard ∷ []
+message_to metadata id extended shard =
+    Metadata metadata ∷ sliver_for metadata id extended Primary shard
+    ∷ sliver_for metadata id extended Secondary shard ∷ []
 
 -- the identifier of a blob, and those frames
 pub record IsMessageOf (digest : List ℕ → List ℕ) (f : ℕ) (format : Format)

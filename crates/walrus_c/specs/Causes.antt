@@ -81,8 +81,8 @@ pub data Shows (digest : List ℕ → List ℕ) (words : List (List ℕ)) (strea
       → Shows digest words streams 301
   inconsistent : (id : BlobId)
       → Found digest words streams (Whole (Check id))
-      (λ recorded. (other : EncodingProof) × IsFirstProof id.0 recorded.payloads other
-      × IsBadProof digest recorded.metadata other)
+      (λ recorded. (shown : EncodingProof) × IsFirstProof id.0 recorded.payloads shown
+      × IsBadProof digest recorded.metadata shown)
       → Shows digest words streams 302
   bad_index : (id : BlobId) (k : ℕ)
       → Found digest words streams (Whole (Member id k)) (MemberIs digest id k BadIndex)

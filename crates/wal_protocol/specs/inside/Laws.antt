@@ -106,16 +106,16 @@ pub record Laws (rules : Rules) : Type 0 where
   pub read_completes : (id : BlobId) (payloads : List (List ℕ))
       (word : ReadWord) (evidence : Option Evidence) (heard : ℕ → Bool)
       → rules.f + 1 ≤ count_below (committee_size rules.f) heard
-      → ((told_shard : ℕ) → told_shard < committee_size rules.f → heard told_shard ≡ true
-      → (parts : Parts) × RepliedTo rules id payloads told_shard parts)
+      → ((helper : ℕ) → helper < committee_size rules.f → heard helper ≡ true
+      → (parts : Parts) × RepliedTo rules id payloads helper parts)
       → rules.Reads id payloads word evidence → (told : Verdict) × (told_by word ≡ Some told)
   -- a recovery of a secondary sliver that has the replies of more than f settled shards ends well
   pub secondary_recovers : (id : BlobId) (shard : ℕ) (old new : Contents)
       (payloads : List (List ℕ)) (word : RecoverWord) (heard : ℕ → Bool)
       → rules.f + 1 ≤ count_below (committee_size rules.f) heard
-      → ((told_shard : ℕ) → told_shard < committee_size rules.f → heard told_shard ≡ true
+      → ((helper : ℕ) → helper < committee_size rules.f → heard helper ≡ true
       → (parts : Parts) × (settled parts ≡ true)
-      × Helped rules id Secondary shard payloads told_shard parts)
+      × Helped rules id Secondary shard payloads helper parts)
       → shard < committee_size rules.f → AllSound rules shard old
       → (rules.ContradictsHeld id (parts_at old id) payloads → ⊥)
       → rules.Recovers id shard Secondary old payloads word new → IsSettledBy word
@@ -124,9 +124,9 @@ pub record Laws (rules : Rules) : Type 0 where
   pub primary_recovers : (id : BlobId) (shard : ℕ) (old new : Contents)
       (payloads : List (List ℕ)) (word : RecoverWord) (heard : ℕ → Bool)
       → quorum_size rules.f ≤ count_below (committee_size rules.f) heard
-      → ((told_shard : ℕ) → told_shard < committee_size rules.f → heard told_shard ≡ true
+      → ((helper : ℕ) → helper < committee_size rules.f → heard helper ≡ true
       → (parts : Parts) × (is_some parts.secondary ≡ true)
-      × Helped rules id Primary shard payloads told_shard parts)
+      × Helped rules id Primary shard payloads helper parts)
       → shard < committee_size rules.f → AllSound rules shard old
       → (rules.ContradictsHeld id (parts_at old id) payloads → ⊥)
       → rules.Recovers id shard Primary old payloads word new → IsDecidedBy word

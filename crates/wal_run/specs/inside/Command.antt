@@ -7,7 +7,7 @@ use Rattle.wal_run.specs.Command.{Recorded, Content, Command}
 
 -- payloads with the one metadata that they carry
 abbrev pub recorded : List (List ℕ) → BlobMetadata → Recorded
-recorded payloads other = record { payloads = payloads; metadata = other }
+recorded payloads metadata = record { payloads = payloads; metadata = metadata }
 
 -- the same of what an input spells
 pub data Told (digest : List ℕ → List ℕ) (command : Command) (content : Content command.grammar) : ℕ

@@ -18,12 +18,12 @@ use Rattle.wal_serve.specs.inside.Payload.{PayloadRoom}
 pub data Lacks (left after : Option (List ℕ)) (Rose : Type 0) (most : ℕ) : Lack → List ℕ
     → Type 0 where
   nothing : Consumes left after [] → IsAtEnd after → Lacks left after Rose most Nothing []
-  wrong : (second : ℕ) → Consumes left after (second ∷ []) → (second ≡ 0x57 → ⊥) → 1 ≤ most
-      → Lacks left after Rose most Wrong (second ∷ [])
+  wrong : (byte : ℕ) → Consumes left after (byte ∷ []) → (byte ≡ 0x57 → ⊥) → 1 ≤ most
+      → Lacks left after Rose most Wrong (byte ∷ [])
   cut : (got : List ℕ) → Consumes left after got → IsPart got → 0 < length got → length got ≤ most
       → IsAtEnd after → Lacks left after Rose most Cut got
-  too_long : (got : List ℕ) (second : ℕ) → Consumes left after (got ++ second ∷ []) → IsPart got
-      → length got ≡ most → Lacks left after Rose most TooLong (got ++ second ∷ [])
+  too_long : (got : List ℕ) (byte : ℕ) → Consumes left after (got ++ byte ∷ []) → IsPart got
+      → length got ≡ most → Lacks left after Rose most TooLong (got ++ byte ∷ [])
   failed : (got : List ℕ) → Consumes left after got → IsPart got → length got ≤ most → Rose
       → Lacks left after Rose most Failed got
 

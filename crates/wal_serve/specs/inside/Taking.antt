@@ -14,8 +14,8 @@ pub data Takes (left after : Option (List ℕ)) (Rose : Type 0) (size most : ℕ
       → Takes left after Rose size most Whole got
   ended : (got : List ℕ) → Consumes left after got → length got < size → length got ≤ most
       → IsAtEnd after → Takes left after Rose size most Ended got
-  too_long : (got : List ℕ) (second : ℕ) → Consumes left after (got ++ second ∷ [])
+  too_long : (got : List ℕ) (byte : ℕ) → Consumes left after (got ++ byte ∷ [])
       → length got < size
-      → length got ≡ most → Takes left after Rose size most TooLong (got ++ second ∷ [])
+      → length got ≡ most → Takes left after Rose size most TooLong (got ++ byte ∷ [])
   failed : (got : List ℕ) → Consumes left after got → length got < size → length got ≤ most → Rose
       → Takes left after Rose size most Failed got

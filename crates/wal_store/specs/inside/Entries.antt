@@ -52,7 +52,7 @@ freed_in entries id part =
 
 -- where there is a limit, the use of it is known, and it holds
 abbrev pub InBudget : Option Budget → ℕ → Type 0
-InBudget budget cost = ForSome budget (λ bytes. (bytes.used ≡ cost) × (bytes.used ≤ bytes.limit))
+InBudget budget cost = ForSome budget (λ known. (known.used ≡ cost) × (known.used ≤ known.limit))
 
 -- whether so many pages are free
 abbrev pub room_answer : Option Budget → ℕ → Result (Unit {0}) KeepError
