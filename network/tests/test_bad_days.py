@@ -144,7 +144,7 @@ class BadDays(NetworkCase):
             await self.local.end("node-3")
             path = self.folder / "node-3.db"
             whole = bytearray(path.read_bytes())
-            for place in range(len(whole) // 3, len(whole) - 40, 1_000):  # what was written is not what is read
+            for place in range(4_096, len(whole) - 40, 1_000):  # what was written is not what is read
                 for offset in range(40):
                     whole[place + offset] = 0xA5
             path.write_bytes(whole)

@@ -5,6 +5,7 @@ import contextlib
 import io
 import os
 import pathlib
+import shutil
 import socket
 import sqlite3
 import tempfile
@@ -65,6 +66,30 @@ class Start(unittest.TestCase):
         with notify.extending():
             time.sleep(0.1)
         self.assertLess(time.monotonic() - begun, 30)
+
+
+class Pages(unittest.IsolatedAsyncioTestCase):
+    async def test_a_start_checks_what_names_parts_and_reads_no_content(self) -> None:
+        """So it takes no longer where more bytes are held; a torn page of contents is found where it is read."""
+        folder = pathlib.Path(self.enterContext(tempfile.TemporaryDirectory(prefix="walrus-pages-")))
+        store = Store(folder / "whole.db")
+        store.begin(0, 0)
+        for name in NAMES:
+            store.put(1, 0, name, METADATA, bytes(9_000), None)
+        pages = dict(store.base.execute("SELECT name, rootpage FROM sqlite_master").fetchall())
+        store.close()
+        for table in ("held", "contents"):
+            path = pathlib.Path(shutil.copy(folder / "whole.db", folder / f"{table}.db"))
+            with open(path, "r+b") as file:
+                file.seek(4_096 * (pages[table] - 1))
+                file.write(b"\xa5" * 4_096)
+        with self.assertRaises(sqlite3.DatabaseError):
+            Store(folder / "held.db")
+        store = Store(folder / "contents.db")
+        self.addCleanup(store.close)
+        self.assertEqual(store.sizes(1, 0, NAMES[0]), {METADATA: 9_000})
+        with self.assertRaises(sqlite3.DatabaseError):
+            store.parts(1, 0, NAMES[0], [METADATA])
 
 
 class DiskCase(unittest.IsolatedAsyncioTestCase):

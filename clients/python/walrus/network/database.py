@@ -5,7 +5,7 @@ import contextlib
 import fcntl
 import sqlite3
 import sys
-from typing import Callable, Optional
+from typing import Callable, Optional, Sequence
 
 from .notify import extending
 
@@ -14,6 +14,7 @@ class Database:
     """A database, or one of this object alone where no path is named."""
 
     seconds = 20.0  # that are waited for one that another process has locked
+    checked: Sequence[object] = (1,)  # the tables whose pages are checked, or the most faults that are told of any page
 
     def __init__(self, name: str):
         self.name, self.fault = name, ""
@@ -31,10 +32,10 @@ class Database:
         """Finds the tables, or makes them."""
 
     def must_be_whole(self) -> None:
-        """Raises where pages are not as they were written. All of them are read, with the contents that they have."""
+        """Raises where pages are not as they were written. All that are checked are read."""
         with extending():
-            found = self.base.execute("PRAGMA quick_check(1)").fetchone()
-        if found != ("ok",):
+            found = {self.base.execute(f"PRAGMA quick_check({it})").fetchone() for it in self.checked}
+        if found != {("ok",)}:
             raise sqlite3.DatabaseError("its pages do not fit together")
 
     def tell(self, fault: Exception) -> None:

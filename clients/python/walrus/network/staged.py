@@ -52,14 +52,13 @@ class Staged(Database):
         self.syncer.start()
 
     def open_tables(self) -> None:
-        """Finds whole pages, and the folder of files or makes it; a fault in here closes the database again."""
+        """Finds the folder of files, or makes it; a fault in here closes the database again."""
         if self.base.execute("PRAGMA journal_mode").fetchone() != ("wal",):
             raise OSError(
                 errno.EINVAL, f"SQLite keeps no log on the disk of {self.path}: have the database on another one"
             )
         self.base.execute("PRAGMA synchronous = NORMAL")
         self.base.text_factory = functools.partial(str, encoding="utf-8", errors="replace")
-        self.must_be_whole()
         self.files = Files(self.path.with_suffix(".parts"))
 
     def stage(self, words: str, *values: object) -> sqlite3.Cursor:

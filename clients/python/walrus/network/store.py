@@ -65,6 +65,8 @@ class Part(NamedTuple):
 class Store(Staged):
     """The parts of a node."""
 
+    checked = "held", "sides", "holdings", "state"  # and not the contents, which are judged whenever they are read
+
     def __init__(self, path: pathlib.Path, recorded: bool = False, fail: Callable[[Any], object] = sys.exit):
         super().__init__(path, fail)
         self.recorded = recorded
@@ -79,6 +81,7 @@ class Store(Staged):
         older = self.base.execute("SELECT 1 FROM sqlite_master WHERE name = 'frames'").fetchone()
         self.base.create_function("name_of", 1, name_of, deterministic=True)
         self.base.executescript(f"{OLDER if older else TABLES}; PRAGMA user_version = {VERSION}")
+        self.must_be_whole()
 
     def note(self, revision: int, epoch: int, shard: int, request: bytes, reply: bytes) -> None:
         """Stages what was answered."""
