@@ -8,7 +8,8 @@ use Rattle.wal_commit.specs.Identifier.{AreDigestedFor, IsIdentifierOf, metadata
 use Rattle.wal_extract.specs.Slivers.{AreDigestedForSlivers}
 use Rattle.wal_reader.specs.Outcome.{IsMetadataIn}
 use Rattle.wal_bundle.specs.declared.answer.MemberAnswer.{MemberAnswer}
-use Rattle.wal_bundle.specs.declared.answer.MemberAnswer.TheVariants.{BadIndex, Collision, Member, Missing, NoMember, NoMetadata}
+use Rattle.wal_bundle.specs.declared.answer.MemberAnswer.TheVariants.{BadIndex, Collision, Member}
+use Rattle.wal_bundle.specs.declared.answer.MemberAnswer.TheVariants.{Missing, NoMember, NoMetadata}
 use Rattle.wal_bundle.specs.Columns.{IsColumn, IsOwnColumn}
 use Rattle.wal_bundle.specs.Layout.{IsBundle}
 use Rattle.wal_bundle.specs.Member.{IsMember}

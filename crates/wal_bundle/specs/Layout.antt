@@ -2,14 +2,16 @@
 --
 -- The index fills columns from column 0 on, and the bytes of each member the columns behind, from a
 -- column's start.
-use Rattle.std.specs.Prelude.{◌≡◌, ℕ, ◌+◌, ◌-◌, ◌*◌, ◌%◌, ◌<◌, ◌≤◌, List, ◌++◌, length, map, take, replicate, slice_index, Result, Ok, Err}
+use Rattle.std.specs.Prelude.{◌≡◌, ℕ, ◌+◌, ◌-◌, ◌*◌, ◌%◌, ◌<◌, ◌≤◌, List, ◌++◌, length, map, take}
+use Rattle.std.specs.Prelude.{replicate, slice_index, Result, Ok, Err}
 use Rattle.std.specs.Int.{w16, w32, div_ceil}
 use Rattle.std.specs.List.{flat_map, range_with_len, sum_by}
 use Rattle.wal_shape.specs.Shape.{cell_count, column_count, most_bytes, row_count}
 use Rattle.wal_shape.specs.Spelling.{number_text}
 use Rattle.wal_matrix.specs.Columns.{block_of_columns}
 use Rattle.wal_bundle.specs.declared.answer.BundleError.{BundleError}
-use Rattle.wal_bundle.specs.declared.answer.BundleError.TheVariants.{BadFaults, Memory, TooLong, TooMany}
+use Rattle.wal_bundle.specs.declared.answer.BundleError.TheVariants.{BadFaults, Memory, TooLong}
+use Rattle.wal_bundle.specs.declared.answer.BundleError.TheVariants.{TooMany}
 
 -- the bytes of a column, for symbols of this size
 abbrev pub column_bytes : ℕ → ℕ → ℕ

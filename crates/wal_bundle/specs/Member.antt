@@ -8,8 +8,10 @@ use Rattle.wal_tree.specs.Collision.{IsCollision}
 use Rattle.wal_commit.specs.Identifier.{AreDigestedFor}
 use Rattle.wal_reader.specs.Outcome.{AreFirstTwo, HasMetadata, IsMetadataIn}
 use Rattle.wal_bundle.specs.declared.answer.MemberAnswer.{MemberAnswer}
-use Rattle.wal_bundle.specs.declared.answer.MemberAnswer.TheVariants.{BadIndex, Collision, Member, Missing, NoMember, NoMetadata}
-use Rattle.wal_bundle.specs.Layout.{IsBundleSize, column_bytes, columns_for, first_column, index_bytes, index_columns, index_text}
+use Rattle.wal_bundle.specs.declared.answer.MemberAnswer.TheVariants.{BadIndex, Collision, Member}
+use Rattle.wal_bundle.specs.declared.answer.MemberAnswer.TheVariants.{Missing, NoMember, NoMetadata}
+use Rattle.wal_bundle.specs.Layout.{IsBundleSize, column_bytes, columns_for, first_column}
+use Rattle.wal_bundle.specs.Layout.{index_bytes, index_columns, index_text}
 use Rattle.wal_bundle.specs.Columns.{AreColumns, IsColumn, IsFirstMissing, IsMissing}
 
 -- the number of members, which column 0 begins with

@@ -13,9 +13,9 @@ draw_text beacon id shard draw = 4 ∷ (beacon ++ id ++ number_text w16 shard ++
 -- the draw that a digest stands for: the lowest bit of byte 0 is the axis, and bytes 3 and 4 as a
 -- number, modulo n, are the place
 abbrev pub draw_in : ℕ → List ℕ → Draw
-draw_in n digits = record {
-  axis = axis_of (slice_index digits 0 % 2);
-  place = from_be_bytes w16 (take 2 (drop 3 digits)) % n;
+draw_in n bytes = record {
+  axis = axis_of (slice_index bytes 0 % 2);
+  place = from_be_bytes w16 (take 2 (drop 3 bytes)) % n;
 }
 
 -- one draw of a shard of n, for the blob of this identifier

@@ -10,7 +10,8 @@ use Rattle.wal_matrix.specs.Matrix.{IsExtended, line_of}
 use Rattle.wal_commit.specs.Held.{HoldsOpening}
 use Rattle.wal_commit.specs.Identifier.{metadata_over}
 use Rattle.wal_challenge.specs.declared.checking.AnswerVerdict.{AnswerVerdict}
-use Rattle.wal_challenge.specs.declared.checking.AnswerVerdict.TheVariants.{Accepted, Wrong, WrongCount}
+use Rattle.wal_challenge.specs.declared.checking.AnswerVerdict.TheVariants.{Accepted, Wrong}
+use Rattle.wal_challenge.specs.declared.checking.AnswerVerdict.TheVariants.{WrongCount}
 use Rattle.wal_challenge.specs.declared.drawing.Draw.{Draw}
 use Rattle.wal_challenge.specs.Answer.{draw_of, drawn_index}
 
@@ -96,10 +97,10 @@ abbrev pub AreDigestedForClaim : (List ℕ → List ℕ) → BlobShape → List 
     → Type 0
 AreDigestedForClaim digest shape bytes claim left right =
     (coded : List ℕ) × IsExtended shape.f bytes coded
-    × (let width = symbol_size shape.f shape.length in
-    let line = line_of (crossing claim.axis) shape.f width coded claim.opening.cross in
+    × (let size = symbol_size shape.f shape.length in
+    let line = line_of (crossing claim.axis) shape.f size coded claim.opening.cross in
     MeetOnPaths digest claim.index claim.opening.symbol claim.opening.path
-    (region width line claim.index) (path_over digest width line claim.index) left right)
+    (region size line claim.index) (path_over digest size line claim.index) left right)
 
 -- for the metadata of the blob with this matrix: each claim shows the drawn symbol of the
 -- matrix, or is false

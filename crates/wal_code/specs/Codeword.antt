@@ -1,12 +1,13 @@
 -- Reed-Solomon codewords: the values of a polynomial at the points 0, 1, .., where the point of an
 -- index is the index itself.
-use Rattle.std.specs.Prelude.{◌≡◌, ◌≢◌, ℕ, ◌<◌, ◌≤◌, List, [], ◌∷◌, length, slice_index, All, AllPairs, bit_xor, ◌==◌, cond}
+use Rattle.std.specs.Prelude.{◌≡◌, ◌≢◌, ℕ, ◌<◌, ◌≤◌, List, [], ◌∷◌, length, slice_index, All}
+use Rattle.std.specs.Prelude.{AllPairs, bit_xor, ◌==◌, cond}
 use Rattle.wal_gf.specs.Field.{IsWord, times, inverse, xor_below}
 use Rattle.wal_gf.specs.Polynomial.{evaluate}
 
 -- no point stands twice
 abbrev pub Distinct : List ℕ → Type 0
-Distinct known = AllPairs (λ point other. point ≢ other) known
+Distinct points = AllPairs (λ point other. point ≢ other) points
 
 -- at each index below n, the symbol is the value of one polynomial with at most k coefficients
 pub record IsCodeword (k n : ℕ) (symbol_at : ℕ → ℕ) : Type 0 where

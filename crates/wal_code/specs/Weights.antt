@@ -1,5 +1,6 @@
 -- How a coefficient is made: a product of differences, and the inverse of another.
-use Rattle.std.specs.Prelude.{◌≡◌, ℕ, ◌<◌, List, [], ◌∷◌, length, slice_index, slice_index_or, bit_xor, ◌==◌, cond}
+use Rattle.std.specs.Prelude.{◌≡◌, ℕ, ◌<◌, List, [], ◌∷◌, length, slice_index, slice_index_or}
+use Rattle.std.specs.Prelude.{bit_xor, ◌==◌, cond}
 use Rattle.wal_gf.specs.Field.{times, inverse}
 use Rattle.wal_gf.specs.declared.Gf.{Gf}
 use Rattle.wal_code.specs.Codeword.{coefficient}

@@ -1,5 +1,6 @@
 -- What the moves between the two states answer, and when.
-use Rattle.std.specs.Prelude.{◌≡◌, ℕ, ◌<◌, ◌≤◌, Bool, true, false, ◌&&◌, nat_le, List, [], Result, Ok, Err}
+use Rattle.std.specs.Prelude.{◌≡◌, ℕ, ◌<◌, ◌≤◌, Bool, true, false, ◌&&◌, nat_le, List, [], Result}
+use Rattle.std.specs.Prelude.{Ok, Err}
 use Rattle.wal_ledger.specs.declared.entry.Body.TheVariants.{Begin, Finish}
 use Rattle.wal_ledger.specs.Ledger.{Log, reading, takes_in, ready_total}
 use Rattle.wal_ledger.specs.Shards.{committee_size, quorum_size}

@@ -41,11 +41,11 @@ pub record IsServing (log : Log) (faulty : List ℕ) : Type 0 where
 
 -- the ledger moves, the lists are of its committees, the faulty ones closed by their owners, and
 -- the ledger is lawful
-pub record IsMoving (log : Log) (now next stays : List ℕ) : Type 0 where
+pub record IsMoving (log : Log) (faulty_now faulty_next stays : List ℕ) : Type 0 where
   pub moves : is_moving log ≡ true
-  pub now_shards : is_ascending (committee_size log.f) now ≡ true
-  pub now_closed : is_closed (owners_of Now log) now ≡ true
-  pub next_shards : is_ascending (committee_size log.f) next ≡ true
-  pub next_closed : is_closed (owners_of Next log) next ≡ true
+  pub now_shards : is_ascending (committee_size log.f) faulty_now ≡ true
+  pub now_closed : is_closed (owners_of Now log) faulty_now ≡ true
+  pub next_shards : is_ascending (committee_size log.f) faulty_next ≡ true
+  pub next_closed : is_closed (owners_of Next log) faulty_next ≡ true
   pub staying_shards : is_ascending (committee_size log.f) stays ≡ true
   pub lawful : IsLawful log

@@ -6,7 +6,9 @@ use Rattle.wal_shape.specs.Owners.{is_ascending, is_committee}
 use Rattle.wal_event.specs.declared.event.Reply.{Reply}
 use Rattle.wal_event.specs.declared.event.Reply.TheVariants as reply
 use Rattle.wal_event.specs.declared.event.Event.{Event}
-use Rattle.wal_event.specs.declared.event.Event.TheVariants.{Register, Write, Send, Ack, Attest, Read, Recover, Forget, Begin, Ready, Finish, Certificate, Holders}
+use Rattle.wal_event.specs.declared.event.Event.TheVariants.{Register, Write, Send, Ack, Attest}
+use Rattle.wal_event.specs.declared.event.Event.TheVariants.{Read, Recover, Forget, Begin, Ready}
+use Rattle.wal_event.specs.declared.event.Event.TheVariants.{Finish, Certificate, Holders}
 use Rattle.wal_event.specs.declared.event.Schedule.{Schedule}
 
 -- a true reply is one of a shard of the n

@@ -32,7 +32,9 @@ use Rattle.wal_event.specs.declared.line.CertificateWord.TheVariants as certific
 use Rattle.wal_event.specs.declared.line.HoldersWord.{HoldersWord}
 use Rattle.wal_event.specs.declared.line.HoldersWord.TheVariants as holders
 use Rattle.wal_event.specs.declared.line.Line.{Line}
-use Rattle.wal_event.specs.declared.line.Line.TheVariants.{Register, Write, Send, Ack, Attest, Read, Recover, Forget, Begin, Ready, Finish, Certificate, Holders, Collision}
+use Rattle.wal_event.specs.declared.line.Line.TheVariants.{Register, Write, Send, Ack, Attest, Read}
+use Rattle.wal_event.specs.declared.line.Line.TheVariants.{Recover, Forget, Begin, Ready, Finish}
+use Rattle.wal_event.specs.declared.line.Line.TheVariants.{Certificate, Holders, Collision}
 
 -- bytes in lower-case digits, and a dash where there are none
 abbrev pub hex_text : List ℕ → List ℕ

@@ -11,7 +11,9 @@ use Rattle.wal_tree.specs.Tree.{root_over}
 use Rattle.wal_matrix.specs.Word.{IsWordThrough}
 use Rattle.wal_commit.specs.Held.{HoldsOpening}
 use Rattle.wal_evidence.specs.declared.proof.ProofVerdict.{ProofVerdict}
-use Rattle.wal_evidence.specs.declared.proof.ProofVerdict.TheVariants.{WrongCount, Repeated, BadOpening, Consistent, Inconsistent}
+use Rattle.wal_evidence.specs.declared.proof.ProofVerdict.TheVariants.{WrongCount, Repeated}
+use Rattle.wal_evidence.specs.declared.proof.ProofVerdict.TheVariants.{BadOpening, Consistent}
+use Rattle.wal_evidence.specs.declared.proof.ProofVerdict.TheVariants.{Inconsistent}
 
 -- the crosses of openings
 abbrev pub crosses_of : List Opening → List ℕ
@@ -46,7 +48,7 @@ pub record ShowLine (digest : List ℕ → List ℕ) (metadata : BlobMetadata) (
   pub enough : AreEnough digest metadata axis index openings
   pub through : IsLineThrough metadata axis openings word
 
--- a proof shows a codeword with another root than m's
+-- a proof shows a codeword with another root than the metadata's
 pub record IsBadProof (digest : List ℕ → List ℕ)
     (metadata : BlobMetadata) (proof : EncodingProof) : Type 0 where
   pub word : List ℕ

@@ -1,5 +1,6 @@
 -- What a reader holds for a metadata, and the verdict on it.
-use Rattle.std.specs.Prelude.{◌≡◌, ◌≢◌, ℕ, ◌*◌, ◌<◌, List, length, take, Some, slice_get, slice_index}
+use Rattle.std.specs.Prelude.{◌≡◌, ◌≢◌, ℕ, ◌*◌, ◌<◌, List, length, take, Some, slice_get}
+use Rattle.std.specs.Prelude.{slice_index}
 use Rattle.wal_code.specs.Codeword.{Distinct}
 use Rattle.wal_kernel.specs.Region.{region}
 use Rattle.wal_shape.specs.declared.axis.Axis.TheVariants.{Primary}

@@ -3,7 +3,8 @@
 -- skews: t_j is the additive function of degree 2^j whose roots are the points below 2^j, and which
 -- is 1 at the point 2^j. The product of the t_j at the bits j of a number is the basis polynomial
 -- of that number, and its degree is the number.
-use Rattle.std.specs.Prelude.{◌≡◌, ℕ, zero, suc, ◌+◌, ◌*◌, ◌^◌, ◌<◌, ◌≤◌, List, [], ◌∷◌, length, slice_index, bit_xor}
+use Rattle.std.specs.Prelude.{◌≡◌, ℕ, zero, suc, ◌+◌, ◌*◌, ◌^◌, ◌<◌, ◌≤◌, List, [], ◌∷◌, length}
+use Rattle.std.specs.Prelude.{slice_index, bit_xor}
 use Rattle.std.specs.Int.{bit_at}
 use Rattle.wal_gf.specs.Field.{times, xor_below}
 use Rattle.wal_kernel.specs.Region.{word_at}

@@ -1,5 +1,6 @@
 -- Reading a frame from left to right, with the first fault that is met.
-use Rattle.std.specs.Prelude.{ℕ, zero, suc, ◌+◌, ◌*◌, List, [], ◌∷◌, length, ◌<◌, Result, Ok, Err, ◌==◌, if◌then◌else◌, ⊤}
+use Rattle.std.specs.Prelude.{ℕ, zero, suc, ◌+◌, ◌*◌, List, [], ◌∷◌, length, ◌<◌, Result, Ok, Err}
+use Rattle.std.specs.Prelude.{◌==◌, if◌then◌else◌, ⊤}
 use Rattle.std.specs.Int.{Width, w8, w16, w32, w64}
 use Rattle.wal_shape.specs.declared.axis.Axis.{Axis}
 use Rattle.wal_shape.specs.declared.opening.Opening as single
@@ -14,8 +15,11 @@ use Rattle.wal_shape.specs.BodyReading.{body_at}
 use Rattle.wal_shape.specs.ProofReading.{axis_of, openings_in}
 use Rattle.wal_frame.specs.declared.fields.Target.{Target}
 use Rattle.wal_frame.specs.declared.frame.FrameError.{FrameError}
-use Rattle.wal_frame.specs.declared.frame.FrameError.TheVariants.{Truncated, BadKind, BadField, Trailing}
-use Rattle.wal_frame.specs.Frame.{Frame, Metadata, Sliver, Opening, Proof, Read, Symbol, Ack, Attest, Forget, Answer, Clash, RegisterEntry, AckEntry, AttestEntry}
+use Rattle.wal_frame.specs.declared.frame.FrameError.TheVariants.{Truncated, BadKind, BadField}
+use Rattle.wal_frame.specs.declared.frame.FrameError.TheVariants.{Trailing}
+use Rattle.wal_frame.specs.Frame.{Frame, Metadata, Sliver, Opening, Proof, Read, Symbol, Ack}
+use Rattle.wal_frame.specs.Frame.{Attest, Forget, Answer, Clash, RegisterEntry, AckEntry}
+use Rattle.wal_frame.specs.Frame.{AttestEntry}
 
 -- the place of a bad field is below n
 abbrev pub IsPlaceBelow : ℕ → FrameError → Type 0
@@ -81,8 +85,8 @@ faults_at place bytes = do
 unfoldable pub roots_at : ℕ → List ℕ → Result (List ℕ) FrameError
 roots_at place bytes = do
   f ← faults_at place bytes
-  size ← field_at w64 (place + 2) most_bytes f.1
-  pairs ← bytes_at (64 * shard_count f.0) size.1
+  blob_length ← field_at w64 (place + 2) most_bytes f.1
+  pairs ← bytes_at (64 * shard_count f.0) blob_length.1
   Ok pairs.1
 
 -- the metadata of the first format, behind the kind

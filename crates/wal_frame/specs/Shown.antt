@@ -6,7 +6,9 @@ use Rattle.wal_shape.specs.Opening.{opening_shown}
 use Rattle.wal_shape.specs.ProofRef.{proof_shown}
 use Rattle.wal_frame.specs.declared.frame.FrameRef.{FrameRef}
 use Rattle.wal_frame.specs.declared.frame.FrameRef.TheVariants as lent
-use Rattle.wal_frame.specs.Frame.{Frame, Metadata, Sliver, Opening, Proof, Read, Symbol, Ack, Attest, Forget, Answer, Clash, RegisterEntry, AckEntry, AttestEntry}
+use Rattle.wal_frame.specs.Frame.{Frame, Metadata, Sliver, Opening, Proof, Read, Symbol, Ack}
+use Rattle.wal_frame.specs.Frame.{Attest, Forget, Answer, Clash, RegisterEntry, AckEntry}
+use Rattle.wal_frame.specs.Frame.{AttestEntry}
 
 -- the frame that is lent
 abbrev pub frame_shown : FrameRef → Frame

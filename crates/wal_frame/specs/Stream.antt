@@ -1,5 +1,7 @@
 -- Streams: envelopes one after the other.
-use Rattle.std.specs.Prelude.{◌≡◌, ℕ, zero, suc, ◌+◌, ◌<◌, ◌^◌, List, [], ◌∷◌, ◌++◌, length, take, drop, slice_index, Option, Some, None, Result, Ok, Err, nat_lt, ◌==◌, if◌then◌else◌, ⊤}
+use Rattle.std.specs.Prelude.{◌≡◌, ℕ, zero, suc, ◌+◌, ◌<◌, ◌^◌, List, [], ◌∷◌, ◌++◌, length, take}
+use Rattle.std.specs.Prelude.{drop, slice_index, Option, Some, None, Result, Ok, Err, nat_lt, ◌==◌}
+use Rattle.std.specs.Prelude.{if◌then◌else◌, ⊤}
 use Rattle.std.specs.Int.{w32, from_be_bytes}
 use Rattle.wal_frame.specs.declared.stream.SplitError.{SplitError}
 use Rattle.wal_frame.specs.declared.stream.SplitError.TheVariants.{Malformed, Memory}
@@ -52,9 +54,9 @@ IfMalformed Memory IsSaid = ⊤
 
 -- what splitting returned is what the stream has, unless memory ran out
 abbrev pub Splits : Result (List (List ℕ)) SplitError → Result (List (List ℕ)) ℕ → Type 0
-Splits (Ok payloads) stream = stream ≡ Ok payloads
-Splits (Err (Malformed place)) stream = stream ≡ Err place
-Splits (Err Memory) stream = ⊤
+Splits (Ok payloads) read = read ≡ Ok payloads
+Splits (Err (Malformed place)) read = read ≡ Err place
+Splits (Err Memory) read = ⊤
 
 -- the bytes are the envelopes of these payloads, one after the other, each from some sender
 abbrev pub IsStream : List (List ℕ) → List ℕ → Type 0

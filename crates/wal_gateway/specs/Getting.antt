@@ -1,6 +1,7 @@
 -- What a get of a blob's bytes answers over a list of blobs that were checked before, and what it
 -- leaves of the list.
-use Rattle.std.specs.Prelude.{◌≡◌, ℕ, ◌+◌, List, [], ◌∷◌, length, take, drop, cond, nat_le, Option, MatchOption, true, false}
+use Rattle.std.specs.Prelude.{◌≡◌, ℕ, ◌+◌, List, [], ◌∷◌, length, take, drop, cond, nat_le, Option}
+use Rattle.std.specs.Prelude.{MatchOption, true, false}
 use Rattle.std.specs.Map.{lookup, remove_entry}
 use Rattle.wal_shape.specs.declared.metadata.BlobId.{BlobId}
 use Rattle.wal_shape.specs.Identifiers.{id_eq}
@@ -9,7 +10,8 @@ use Rattle.wal_reader.specs.Outcome.{IsMetadataIn, IsOutcome}
 use Rattle.wal_reader.specs.declared.outcome.Outcome.{Outcome}
 use Rattle.wal_reader.specs.declared.outcome.Outcome.TheVariants as read
 use Rattle.wal_gateway.specs.declared.answer.Found.{Found}
-use Rattle.wal_gateway.specs.declared.answer.Found.TheVariants.{Range, OutOfRange, Reject, Short, NoMetadata, Collision}
+use Rattle.wal_gateway.specs.declared.answer.Found.TheVariants.{Range, OutOfRange, Reject, Short}
+use Rattle.wal_gateway.specs.declared.answer.Found.TheVariants.{NoMetadata, Collision}
 use Rattle.wal_gateway.specs.declared.answer.GetAnswer.{GetAnswer}
 use Rattle.wal_gateway.specs.declared.checked.CheckedBlob.{CheckedBlob}
 

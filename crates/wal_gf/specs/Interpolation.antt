@@ -1,5 +1,6 @@
 -- The polynomial of least degree that has given values at given points.
-use Rattle.std.specs.Prelude.{◌≡◌, ℕ, ◌-◌, ◌≤◌, All, List, ◌++◌, map, length, replicate, slice_index, EachIndex}
+use Rattle.std.specs.Prelude.{◌≡◌, ℕ, ◌-◌, ◌≤◌, All, List, ◌++◌, map, length, replicate}
+use Rattle.std.specs.Prelude.{slice_index, EachIndex}
 use Rattle.wal_gf.specs.declared.Gf.{Gf}
 use Rattle.wal_gf.specs.Field.{IsWord}
 use Rattle.wal_gf.specs.Polynomial.{evaluate}

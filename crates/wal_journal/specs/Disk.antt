@@ -1,5 +1,6 @@
 -- A disk: what its calls do to the bytes on it, and what a crash may leave.
-use Rattle.std.specs.Prelude.{◌≡◌, ℕ, ◌+◌, ◌<◌, ◌≤◌, ◌⊎◌, List, [], ◌∷◌, ◌++◌, length, take, drop, get_or, Result, Ok, Err}
+use Rattle.std.specs.Prelude.{◌≡◌, ℕ, ◌+◌, ◌<◌, ◌≤◌, ◌⊎◌, List, [], ◌∷◌, ◌++◌, length, take, drop}
+use Rattle.std.specs.Prelude.{get_or, Result, Ok, Err}
 
 -- a place lies in one of the ranges, each given by its start and its length
 abbrev pub IsIn : List (ℕ × ℕ) → ℕ → Type 0

@@ -1,5 +1,6 @@
 -- What contracts see of a journal, and how a change ends.
-use Rattle.std.specs.Prelude.{◌≡◌, ◌⊎◌, ℕ, ◌+◌, ◌-◌, ◌<◌, ◌≤◌, Bool, ⊤, List, [], ◌∷◌, ◌++◌, length, get_or, Option, Result, Ok, Err}
+use Rattle.std.specs.Prelude.{◌≡◌, ◌⊎◌, ℕ, ◌+◌, ◌-◌, ◌<◌, ◌≤◌, Bool, ⊤, List, [], ◌∷◌, ◌++◌, length}
+use Rattle.std.specs.Prelude.{get_or, Option, Result, Ok, Err}
 use Rattle.wal_shape.specs.declared.BlobId.{BlobId}
 use Rattle.wal_store.specs.declared.contract.KeepError.TheVariants as keeps
 use Rattle.wal_store.specs.Contents.{Contents}

@@ -16,7 +16,8 @@ use Rattle.wal_ledger.specs.declared.answers.ReadyAnswer.TheVariants as readying
 use Rattle.wal_ledger.specs.declared.answers.ClaimAnswer.{ClaimAnswer}
 use Rattle.wal_ledger.specs.declared.answers.ClaimAnswer.TheVariants as claiming
 use Rattle.wal_ledger.specs.Shards.{quorum_size}
-use Rattle.wal_ledger.specs.Ledger.{Log, LedgerState, is_moving, is_live, until_of, writing, signers, signer_count, ready_shards, ready_total, takes_in}
+use Rattle.wal_ledger.specs.Ledger.{Log, LedgerState, is_moving, is_live, until_of, writing}
+use Rattle.wal_ledger.specs.Ledger.{signers, signer_count, ready_shards, ready_total, takes_in}
 
 -- a registration of a live identifier while the epoch changes
 abbrev pub is_moving_extension : Log → BlobId → Bool

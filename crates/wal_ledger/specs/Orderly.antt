@@ -2,7 +2,8 @@
 use Rattle.std.specs.Prelude.{◌≡◌, ◌≢◌, ℕ, ◌+◌, ◌≤◌, true, cond, length, All}
 use Rattle.wal_shape.specs.declared.metadata.BlobId.{BlobId}
 use Rattle.wal_ledger.specs.declared.entry.Kind.{Kind}
-use Rattle.wal_ledger.specs.Ledger.{Log, phase, writing, is_moving, cut, own_entries, is_live, signers}
+use Rattle.wal_ledger.specs.Ledger.{Log, phase, writing, is_moving, cut, own_entries, is_live}
+use Rattle.wal_ledger.specs.Ledger.{signers}
 
 -- changes of the epoch come one after the other, each with owners; no entry is of a later epoch
 -- than the writing one; and while the epoch changes, what is live and was signed in an earlier

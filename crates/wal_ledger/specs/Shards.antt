@@ -4,8 +4,8 @@ use Rattle.wal_shape.specs.Shape.{shard_count}
 
 -- how many of the n shards from 0 on pass
 abbrev pub count_below : ℕ → (ℕ → Bool) → ℕ
-count_below zero counts = 0
-count_below (suc n) counts = count_below n counts + cond (counts n) 1 0
+count_below zero passes = 0
+count_below (suc n) passes = count_below n passes + cond (passes n) 1 0
 
 -- the shards of a committee of which at most f are faulty
 abbrev pub committee_size : ℕ → ℕ

@@ -1,7 +1,8 @@
 -- The extended matrix of a blob, and its slivers.
 --
 -- A matrix has n rows and n columns of symbols of one size, and lies row by row.
-use Rattle.std.specs.Prelude.{◌≡◌, ℕ, ◌+◌, ◌-◌, ◌*◌, ◌<◌, List, length, take, drop, ◌++◌, replicate, slice_index}
+use Rattle.std.specs.Prelude.{◌≡◌, ℕ, ◌+◌, ◌-◌, ◌*◌, ◌<◌, List, length, take, drop, ◌++◌, replicate}
+use Rattle.std.specs.Prelude.{slice_index}
 use Rattle.std.specs.List.{flat_map, range_with_len}
 use Rattle.wal_code.specs.Codeword.{IsCodeword}
 use Rattle.wal_kernel.specs.Region.{word_at}
@@ -11,8 +12,8 @@ use Rattle.wal_shape.specs.Shape.{BlobShape, shard_count, row_count, column_coun
 
 -- the symbol at this row and column, of n columns
 unfoldable pub symbol : ℕ → ℕ → List ℕ → ℕ → ℕ → List ℕ
-symbol n cell_size extended row column =
-    take cell_size (drop ((row * n + column) * cell_size) extended)
+symbol n cell_size block row column =
+    take cell_size (drop ((row * n + column) * cell_size) block)
 
 -- the bytes of the source block: the blob, and zeros after it
 unfoldable pub padded : ℕ → List ℕ → List ℕ
@@ -55,8 +56,8 @@ primary_of f cell_size extended i =
 
 -- the first symbols of column j, as many as there are rows
 unfoldable pub column_part : ℕ → ℕ → List ℕ → ℕ → ℕ → List ℕ
-column_part n cell_size extended rows j =
-    flat_map (λ row. symbol n cell_size extended row j) (range_with_len 0 rows)
+column_part n cell_size block rows j =
+    flat_map (λ row. symbol n cell_size block row j) (range_with_len 0 rows)
 
 -- column j
 unfoldable pub column_of : ℕ → ℕ → List ℕ → ℕ → List ℕ

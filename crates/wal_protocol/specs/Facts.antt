@@ -7,7 +7,8 @@ use Rattle.wal_shape.specs.Owners.{among}
 use Rattle.wal_ledger.specs.declared.entry.Kind.{Kind}
 use Rattle.wal_ledger.specs.declared.entry.Kind.TheVariants.{Holds, Denies}
 use Rattle.wal_ledger.specs.Shards.{count_below, committee_size}
-use Rattle.wal_ledger.specs.Ledger.{phase, is_moving, writing, owners_at, cut, is_live, same_node, signers, IsCertified, MustHold, ready_shards}
+use Rattle.wal_ledger.specs.Ledger.{phase, is_moving, writing, owners_at, cut, is_live, same_node}
+use Rattle.wal_ledger.specs.Ledger.{signers, IsCertified, MustHold, ready_shards}
 use Rattle.wal_ledger.specs.Orderly.{IsOrderly}
 use Rattle.wal_ledger.specs.Handover.{IsMadeSince}
 use Rattle.wal_store.specs.Parts.{Parts}

@@ -1,5 +1,6 @@
 -- What is safe of a run, whatever faulty shards and writers do.
-use Rattle.std.specs.Prelude.{◌≡◌, ℕ, ◌+◌, ◌<◌, ◌≤◌, Bool, true, is_some, List, ◌∷◌, Some, All, Contains}
+use Rattle.std.specs.Prelude.{◌≡◌, ℕ, ◌+◌, ◌<◌, ◌≤◌, Bool, true, is_some, List, ◌∷◌, Some, All}
+use Rattle.std.specs.Prelude.{Contains}
 use Rattle.wal_shape.specs.declared.metadata.BlobId.{BlobId}
 use Rattle.wal_shape.specs.declared.axis.Axis.TheVariants.{Primary, Secondary}
 use Rattle.wal_shape.specs.declared.axis.Side.{Side}
@@ -18,7 +19,8 @@ use Rattle.wal_event.specs.declared.line.ReadWord.TheVariants as reading_of
 use Rattle.wal_event.specs.declared.line.RecoverWord.TheVariants as recovering
 use Rattle.wal_ledger.specs.Shards.{count_below, committee_size, quorum_size}
 use Rattle.wal_ledger.specs.Ledger.{is_live, home_of, IsCertified}
-use Rattle.wal_protocol.specs.State.{World, side_of, writing_side, is_correct, held, settled_in, holders}
+use Rattle.wal_protocol.specs.State.{World, side_of, writing_side, is_correct, held, settled_in}
+use Rattle.wal_protocol.specs.State.{holders}
 use Rattle.wal_protocol.specs.Rules.{Rules}
 use Rattle.wal_protocol.specs.Step.{told_by}
 use Rattle.wal_protocol.specs.Run.{first_state}

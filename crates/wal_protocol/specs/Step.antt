@@ -1,6 +1,7 @@
 -- The step of the world for each kind of event: the state before it, the line that it gives, and
 -- the state after it.
-use Rattle.std.specs.Prelude.{◌≡◌, ◌≢◌, ℕ, ◌+◌, ◌<◌, ◌≤◌, Bool, true, false, cond, ◌&&◌, nat_le, List, [], ◌∷◌, ◌++◌, length, map, filter, Option, Some, None}
+use Rattle.std.specs.Prelude.{◌≡◌, ◌≢◌, ℕ, ◌+◌, ◌<◌, ◌≤◌, Bool, true, false, cond, ◌&&◌, nat_le}
+use Rattle.std.specs.Prelude.{List, [], ◌∷◌, ◌++◌, length, map, filter, Option, Some, None}
 use Rattle.std.specs.List.{flat_map, range_with_len}
 use Rattle.std.specs.FinMap as finmap
 use Rattle.wal_shape.specs.declared.metadata.BlobId.{BlobId}
@@ -14,7 +15,9 @@ use Rattle.wal_evidence.specs.declared.evidence.Verdict.{Verdict}
 use Rattle.wal_evidence.specs.declared.evidence.Verdict.TheVariants as verdict
 use Rattle.wal_frame.specs.Frame.{Frame}
 use Rattle.wal_event.specs.declared.event.Event.{Event}
-use Rattle.wal_event.specs.declared.event.Event.TheVariants.{Register, Write, Send, Ack, Attest, Read, Recover, Forget, Begin, Ready, Finish, Certificate, Holders}
+use Rattle.wal_event.specs.declared.event.Event.TheVariants.{Register, Write, Send, Ack, Attest}
+use Rattle.wal_event.specs.declared.event.Event.TheVariants.{Read, Recover, Forget, Begin, Ready}
+use Rattle.wal_event.specs.declared.event.Event.TheVariants.{Finish, Certificate, Holders}
 use Rattle.wal_event.specs.declared.event.Reply.{Reply}
 use Rattle.wal_event.specs.declared.event.Reply.TheVariants as reply
 use Rattle.wal_event.specs.declared.line.Line.{Line}
@@ -47,8 +50,11 @@ use Rattle.wal_ledger.specs.declared.entry.Body.TheVariants as entry
 use Rattle.wal_ledger.specs.declared.entry.Kind.{Kind}
 use Rattle.wal_ledger.specs.declared.entry.Kind.TheVariants.{Holds, Denies}
 use Rattle.wal_ledger.specs.Shards.{committee_size, quorum_size}
-use Rattle.wal_ledger.specs.Ledger.{Log, is_moving, reading, writing, owners_of, until_of, is_live, same_node, signers, signer_count, IsCertified, MustHold, ready_shards, ready_total, entered}
-use Rattle.wal_ledger.specs.Answers.{MayRegister, is_moving_extension, IsOpen, MayClaim, claim_of, IsCertificate}
+use Rattle.wal_ledger.specs.Ledger.{Log, is_moving, reading, writing, owners_of, until_of, is_live}
+use Rattle.wal_ledger.specs.Ledger.{same_node, signers, signer_count, IsCertified, MustHold}
+use Rattle.wal_ledger.specs.Ledger.{ready_shards, ready_total, entered}
+use Rattle.wal_ledger.specs.Answers.{MayRegister, is_moving_extension, IsOpen, MayClaim, claim_of}
+use Rattle.wal_ledger.specs.Answers.{IsCertificate}
 use Rattle.wal_store.specs.Contents.{Contents}
 use Rattle.wal_shard.specs.declared.answers.PutAnswer.{PutAnswer}
 use Rattle.wal_shard.specs.declared.answers.PutAnswer.TheVariants as putting
@@ -56,7 +62,9 @@ use Rattle.wal_shard.specs.Holding.{settled}
 use Rattle.wal_shard.specs.Vouching.{backs, MayForget, without_slivers, without_dead}
 use Rattle.wal_protocol.specs.declared.first.First.{First}
 use Rattle.wal_protocol.specs.declared.first.First.TheVariants.{Judged, Written}
-use Rattle.wal_protocol.specs.State.{Committee, World, nobody, side_of, with_side, is_present, writing_side, is_correct, contents_of, held, with_contents, keeps, holders, verdict_of, answered}
+use Rattle.wal_protocol.specs.State.{Committee, World, nobody, side_of, with_side, is_present}
+use Rattle.wal_protocol.specs.State.{writing_side, is_correct, contents_of, held, with_contents}
+use Rattle.wal_protocol.specs.State.{keeps, holders, verdict_of, answered}
 use Rattle.wal_protocol.specs.Rules.{Rules}
 use Rattle.wal_epoch.specs.Committee.{is_carried}
 

@@ -12,7 +12,8 @@ use Rattle.wal_reader.specs.declared.known.Known.{Known}
 use Rattle.wal_reader.specs.declared.kept.Kept.{Kept}
 use Rattle.wal_reader.specs.declared.kept.Kept.TheVariants.{Waiting, One, Two}
 use Rattle.wal_reader.specs.Carried.{CarriesProof, IsFirstBadProof, NoBadProof}
-use Rattle.wal_reader.specs.Outcome.{AreFirstTwo, Collects, HasMetadata, IsFirstMetadata, IsMetadataIn}
+use Rattle.wal_reader.specs.Outcome.{AreFirstTwo, Collects, HasMetadata, IsFirstMetadata}
+use Rattle.wal_reader.specs.Outcome.{IsMetadataIn}
 
 -- the payload carries neither a primary sliver nor a proof of this identifier
 abbrev pub CarriesNoPart : List ℕ → List ℕ → Type 0
@@ -64,7 +65,7 @@ abbrev pub HasKept : (List ℕ → List ℕ) → List ℕ → Kept → List (Lis
 HasKept digest id (Waiting parts) payloads =
     ((metadata : BlobMetadata) → HasMetadata digest id payloads metadata → ⊥)
     × Sifts id parts.items payloads
-HasKept digest id (One k) payloads = HasKnown digest id k payloads
+HasKept digest id (One known) payloads = HasKnown digest id known payloads
 HasKept digest id (Two clash) payloads =
     (one : BlobMetadata) × (other : BlobMetadata) × AreFirstTwo digest id payloads one other
     × IsCollision digest clash.left clash.right
@@ -73,7 +74,7 @@ HasKept digest id (Two clash) payloads =
 -- enough slivers are held, or two metadata differ
 abbrev pub IsSettledKept : Kept → Type 0
 IsSettledKept (Waiting parts) = ⊥
-IsSettledKept (One k) = IsEnough k
+IsSettledKept (One known) = IsEnough known
 IsSettledKept (Two clash) = ⊤
 
 -- the identifier, and what is kept

@@ -1,5 +1,6 @@
 -- What a read of recorded payloads comes to.
-use Rattle.std.specs.Prelude.{◌≡◌, ◌≢◌, ◌⊎◌, ⊤, ℕ, ◌<◌, All, List, ◌∷◌, ◌++◌, length, map, Ok, Some, None, Option, Any}
+use Rattle.std.specs.Prelude.{◌≡◌, ◌≢◌, ◌⊎◌, ⊤, ℕ, ◌<◌, All, List, ◌∷◌, ◌++◌, length, map, Ok, Some}
+use Rattle.std.specs.Prelude.{None, Option, Any}
 use Rattle.std.specs.List.{flat_map}
 use Rattle.wal_code.specs.Codeword.{Distinct}
 use Rattle.wal_shape.specs.declared.axis.Axis.TheVariants.{Primary}
@@ -20,7 +21,8 @@ use Rattle.wal_evidence.specs.declared.evidence.Verdict.TheVariants as told
 use Rattle.wal_reader.specs.Carried.{CarriesHeldSliver, IsFirstBadProof, NoBadProof}
 use Rattle.wal_reader.specs.declared.outcome.ReadAnswer.{ReadAnswer}
 use Rattle.wal_reader.specs.declared.outcome.Outcome.{Outcome}
-use Rattle.wal_reader.specs.declared.outcome.Outcome.TheVariants.{Bytes, Reject, Short, NoMetadata, Collision}
+use Rattle.wal_reader.specs.declared.outcome.Outcome.TheVariants.{Bytes, Reject, Short, NoMetadata}
+use Rattle.wal_reader.specs.declared.outcome.Outcome.TheVariants.{Collision}
 
 -- the payload is the frame of a metadata that id commits
 abbrev pub CarriesMetadata : (List ℕ → List ℕ) → List ℕ → BlobMetadata → List ℕ → Type 0

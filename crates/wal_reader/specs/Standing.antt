@@ -1,5 +1,6 @@
 -- What a reader stands for: a stream that was fed in pieces.
-use Rattle.std.specs.Prelude.{◌≡◌, ℕ, ◌<◌, ◌≤◌, List, ◌++◌, length, Option, None, Some, Result, Ok, Err}
+use Rattle.std.specs.Prelude.{◌≡◌, ℕ, ◌<◌, ◌≤◌, List, ◌++◌, length, Option, None, Some, Result, Ok}
+use Rattle.std.specs.Prelude.{Err}
 use Rattle.wal_shape.specs.Metadata.{BlobMetadata}
 use Rattle.wal_frame.specs.Stream.{IsStream, IsMalformed}
 use Rattle.wal_reader.specs.Heard.{IsSettledState}

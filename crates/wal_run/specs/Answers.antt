@@ -8,7 +8,8 @@ use Rattle.wal_words.specs.declared.task.Task.TheVariants.{Serve}
 use Rattle.wal_words.specs.declared.task.Service.{Service}
 use Rattle.wal_words.specs.Task.{IsTask, NoTask}
 use Rattle.wal_run.specs.Around.{Around}
-use Rattle.wal_run.specs.Command.{IsResult, IsTaken, IsTooLong, MayLeave, MayOwe, TakesAtMost, TakesInput}
+use Rattle.wal_run.specs.Command.{IsResult, IsTaken, IsTooLong, MayLeave, MayOwe, TakesAtMost}
+use Rattle.wal_run.specs.Command.{TakesInput}
 use Rattle.wal_run.specs.Commands.{command_of, usage_text}
 use Rattle.wal_run.specs.Serving.{EndsServing, IsServiceResult}
 

@@ -5,7 +5,8 @@ use Rattle.wal_port.specs.Appending.{AppendsPart}
 use Rattle.wal_shape.specs.declared.text.MetaClash.{MetaClash}
 use Rattle.wal_tree.specs.Collision.{IsCollision}
 use Rattle.wal_serve.specs.declared.serving.ServeEnd.{ServeEnd}
-use Rattle.wal_serve.specs.declared.serving.ServeEnd.TheVariants.{ReadFault, WriteFault, Malformed, TooLong, Collision}
+use Rattle.wal_serve.specs.declared.serving.ServeEnd.TheVariants.{ReadFault, WriteFault, Malformed}
+use Rattle.wal_serve.specs.declared.serving.ServeEnd.TheVariants.{TooLong, Collision}
 use Rattle.wal_serve.specs.Room.{desk_room}
 use Rattle.wal_serve.specs.Serving.{IsServed}
 use Rattle.wal_serve.specs.State.{ServedState}
@@ -14,7 +15,9 @@ use Rattle.wal_words.specs.declared.task.Task.{Task}
 use Rattle.wal_words.specs.declared.task.Task.TheVariants.{Serve}
 use Rattle.wal_words.specs.Task.{IsTask, NoTask}
 use Rattle.wal_run.specs.Around.{Around}
-use Rattle.wal_run.specs.Command.{Command, IsClash, IsFrontOf, IsFrontUpToClash, IsLacking, IsRejection, IsTaken, IsTooLong, IsUnreadable, MayOwe, TakesAtMost, TakesInput}
+use Rattle.wal_run.specs.Command.{Command, IsClash, IsFrontOf, IsFrontUpToClash, IsLacking}
+use Rattle.wal_run.specs.Command.{IsRejection, IsTaken, IsTooLong, IsUnreadable, MayOwe}
+use Rattle.wal_run.specs.Command.{TakesAtMost, TakesInput}
 use Rattle.wal_run.specs.Commands.{command_of, usage_text}
 use Rattle.wal_run.specs.SameText.{IsPlaceOf, Place, SameText}
 use Rattle.wal_run.specs.Serving.{answering, at_start, serve_limit}

@@ -4,7 +4,9 @@ use Rattle.wal_shape.specs.declared.metadata.BlobId.{BlobId}
 use Rattle.wal_shape.specs.EncodingProof.{EncodingProof}
 use Rattle.wal_reader.specs.Carried.{IsFirstProof, NoProof}
 use Rattle.wal_evidence.specs.declared.proof.ProofVerdict.{ProofVerdict}
-use Rattle.wal_evidence.specs.declared.proof.ProofVerdict.TheVariants.{WrongCount, Repeated, BadOpening, Consistent, Inconsistent}
+use Rattle.wal_evidence.specs.declared.proof.ProofVerdict.TheVariants.{WrongCount, Repeated}
+use Rattle.wal_evidence.specs.declared.proof.ProofVerdict.TheVariants.{BadOpening, Consistent}
+use Rattle.wal_evidence.specs.declared.proof.ProofVerdict.TheVariants.{Inconsistent}
 use Rattle.wal_evidence.specs.BadProof.{Checks, IsBadProof}
 use Rattle.wal_run.specs.Command.{Command, bare, envelopes_of}
 use Rattle.wal_run.specs.Lines.{number_text}

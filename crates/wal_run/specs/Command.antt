@@ -1,6 +1,7 @@
 -- A COMMAND: how its input is spelled, and its results by status, each with what it shows and the
 -- text that tells it.
-use Rattle.std.specs.Prelude.{◌≡◌, ◌⊎◌, ℕ, ◌+◌, ◌<◌, ◌≤◌, List, [], ◌++◌, length, codes, Option, IfSome, Ok, Err, ⊤}
+use Rattle.std.specs.Prelude.{◌≡◌, ◌⊎◌, ℕ, ◌+◌, ◌<◌, ◌≤◌, List, [], ◌++◌, length, codes, Option}
+use Rattle.std.specs.Prelude.{IfSome, Ok, Err, ⊤}
 use Rattle.std.specs.Io.KnownBytes.{Consumes, IsAtEnd, Keeps}
 use Rattle.wal_shape.specs.declared.metadata.BlobId.{BlobId}
 use Rattle.wal_shape.specs.Shape.{most_bytes}
@@ -12,7 +13,8 @@ use Rattle.wal_event.specs.declared.event.Schedule.{Schedule}
 use Rattle.wal_reader.specs.Outcome.{AreFirstTwo, HasMetadata, IsMetadataIn}
 use Rattle.wal_schedule.specs.Grammar.{IsRead}
 use Rattle.wal_schedule.specs.declared.read.ScheduleError.{ScheduleError}
-use Rattle.wal_schedule.specs.declared.read.ScheduleError.TheVariants.{NotJson, BadSchedule, TooMany, BadEvent, Memory}
+use Rattle.wal_schedule.specs.declared.read.ScheduleError.TheVariants.{NotJson, BadSchedule}
+use Rattle.wal_schedule.specs.declared.read.ScheduleError.TheVariants.{TooMany, BadEvent, Memory}
 use Rattle.wal_run.specs.Lines.{collision_text, malformed_text, number_text}
 use Rattle.wal_run.specs.SameText.{Place, SameFront, line}
 
@@ -80,7 +82,7 @@ Misspells nothing input text = ⊥
 abbrev pub HasNone : (List ℕ → List ℕ) → Grammar → List ℕ → List ℕ → Type 0
 HasNone digest (envelopes_of id) input text =
     (payloads : List (List ℕ)) × IsStream payloads input
-    × ((other : BlobMetadata) → HasMetadata digest id.0 payloads other → ⊥)
+    × ((metadata : BlobMetadata) → HasMetadata digest id.0 payloads metadata → ⊥)
     × (text ≡ codes "no metadata\n")
 HasNone digest bytes input text = ⊥
 HasNone digest envelopes input text = ⊥

@@ -3,7 +3,9 @@ use Rattle.std.specs.Prelude.{ℕ, List, codes}
 use Rattle.wal_words.specs.declared.task.Task.{Task}
 use Rattle.wal_words.specs.declared.task.Task.TheVariants.{Whole, Read, Serve, Sample}
 use Rattle.wal_words.specs.declared.task.WholeTask.{WholeTask}
-use Rattle.wal_words.specs.declared.task.WholeTask.TheVariants.{Identify, Encode, Recover, Check, Replay, Image, Unpack, Bundle, Member, Challenge, Verify, Gateway}
+use Rattle.wal_words.specs.declared.task.WholeTask.TheVariants.{Identify, Encode, Recover, Check}
+use Rattle.wal_words.specs.declared.task.WholeTask.TheVariants.{Replay, Image, Unpack, Bundle}
+use Rattle.wal_words.specs.declared.task.WholeTask.TheVariants.{Member, Challenge, Verify, Gateway}
 use Rattle.wal_run.specs.Command.{Command, bare, nothing}
 use Rattle.wal_run.specs.Bundling.{bundling}
 use Rattle.wal_run.specs.Challenging.{challenging}

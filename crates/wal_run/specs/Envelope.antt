@@ -12,11 +12,11 @@ use Rattle.wal_commit.specs.Identifier.{metadata_over, identifier_of}
 unfoldable pub shard_text : List ℕ → BlobShape → List ℕ → ℕ → List ℕ
 shard_text id shape extended shard =
     let size = symbol_size shape.f shape.length in
-    let primary = held_index shape.format shape.f Primary shard in
-    let secondary = held_index shape.format shape.f Secondary shard in
-    envelope shard (sliver_frame id Primary primary (primary_of shape.f size extended primary))
+    let row = held_index shape.format shape.f Primary shard in
+    let column = held_index shape.format shape.f Secondary shard in
+    envelope shard (sliver_frame id Primary row (primary_of shape.f size extended row))
     ++ envelope shard
-    (sliver_frame id Secondary secondary (secondary_of shape.f size extended secondary))
+    (sliver_frame id Secondary column (secondary_of shape.f size extended column))
 
 -- the envelope of the metadata from sender 0, and then those of each shard in turn
 abbrev pub all_envelopes : List ℕ → BlobMetadata → BlobShape → List ℕ → List ℕ

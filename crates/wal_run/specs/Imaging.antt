@@ -1,5 +1,6 @@
 -- The command that writes an image of the parts that envelopes carry.
-use Rattle.std.specs.Prelude.{◌≡◌, ℕ, ◌+◌, ◌-◌, List, [], ◌∷◌, ◌++◌, length, codes, decimal, Result, Ok, Err, nat_lt, if◌then◌else◌}
+use Rattle.std.specs.Prelude.{◌≡◌, ℕ, ◌+◌, ◌-◌, List, [], ◌∷◌, ◌++◌, length, codes, decimal, Result}
+use Rattle.std.specs.Prelude.{Ok, Err, nat_lt, if◌then◌else◌}
 use Rattle.wal_store.specs.Calls.{Call, no_contents}
 use Rattle.wal_journal.specs.Record.{spelling, records}
 use Rattle.wal_journal.specs.Packing.{puts_of}

@@ -1,7 +1,8 @@
 -- The command that reads a member of a bundle from recorded envelopes.
 use Rattle.std.specs.Prelude.{◌≡◌, ◌⊎◌, ℕ, List, codes}
 use Rattle.wal_shape.specs.declared.metadata.BlobId.{BlobId}
-use Rattle.wal_bundle.specs.declared.answer.MemberAnswer.TheVariants.{BadIndex, Member, Missing, NoMember}
+use Rattle.wal_bundle.specs.declared.answer.MemberAnswer.TheVariants.{BadIndex, Member, Missing}
+use Rattle.wal_bundle.specs.declared.answer.MemberAnswer.TheVariants.{NoMember}
 use Rattle.wal_bundle.specs.Member.{IsMember}
 use Rattle.wal_run.specs.Command.{Command, bare, envelopes_of}
 use Rattle.wal_run.specs.Lines.{number_text}

@@ -2,7 +2,8 @@
 use Rattle.std.specs.Prelude.{◌≡◌, ◌⊎◌, ℕ, List, ◌++◌, codes, decimal}
 use Rattle.wal_reader.specs.Carried.{claims_in}
 use Rattle.wal_challenge.specs.declared.checking.AnswerVerdict.{AnswerVerdict}
-use Rattle.wal_challenge.specs.declared.checking.AnswerVerdict.TheVariants.{Accepted, Wrong, WrongCount}
+use Rattle.wal_challenge.specs.declared.checking.AnswerVerdict.TheVariants.{Accepted, Wrong}
+use Rattle.wal_challenge.specs.declared.checking.AnswerVerdict.TheVariants.{WrongCount}
 use Rattle.wal_challenge.specs.Verdict.{AnswersComeTo}
 use Rattle.wal_words.specs.declared.task.Audit.{Audit}
 use Rattle.wal_run.specs.Command.{Command, Recorded, bare, envelopes_of}

@@ -1,5 +1,7 @@
 -- Schedules as JSON: which value is which schedule, and what is wrong with one that is none.
-use Rattle.std.specs.Prelude.{◌≡◌, ℕ, ◌+◌, ◌==◌, ◌&&◌, nat_le, nat_lt, cond, Bool, true, bytes_eq, List, [], ◌∷◌, codes, Option, Some, None, is_some, Result, Ok, Err, if◌then◌else◌, ⊤, IsUtf8}
+use Rattle.std.specs.Prelude.{◌≡◌, ℕ, ◌+◌, ◌==◌, ◌&&◌, nat_le, nat_lt, cond, Bool, true, bytes_eq}
+use Rattle.std.specs.Prelude.{List, [], ◌∷◌, codes, Option, Some, None, is_some, Result, Ok, Err}
+use Rattle.std.specs.Prelude.{if◌then◌else◌, ⊤, IsUtf8}
 use Rattle.std.specs.List.{range_with_len}
 use Rattle.serde_json.specs.Data.{Data, Items, no_items, item}
 use Rattle.serde_json.specs.Events.{items_len}
@@ -12,13 +14,17 @@ use Rattle.wal_shape.specs.Owners.{is_committee}
 use Rattle.wal_event.specs.declared.event.Reply.{Reply}
 use Rattle.wal_event.specs.declared.event.Reply.TheVariants as reply
 use Rattle.wal_event.specs.declared.event.Event.{Event}
-use Rattle.wal_event.specs.declared.event.Event.TheVariants.{Register, Write, Send, Ack, Attest, Read, Recover, Forget, Begin, Ready, Finish, Certificate, Holders}
+use Rattle.wal_event.specs.declared.event.Event.TheVariants.{Register, Write, Send, Ack, Attest}
+use Rattle.wal_event.specs.declared.event.Event.TheVariants.{Read, Recover, Forget, Begin, Ready}
+use Rattle.wal_event.specs.declared.event.Event.TheVariants.{Finish, Certificate, Holders}
 use Rattle.wal_event.specs.declared.event.Schedule.{Schedule}
 use Rattle.wal_event.specs.Event.{event_fits}
 use Rattle.wal_schedule.specs.declared.read.Head.{Head}
 use Rattle.wal_schedule.specs.declared.read.ScheduleError.{ScheduleError}
-use Rattle.wal_schedule.specs.declared.read.ScheduleError.TheVariants.{NotJson, BadSchedule, TooMany, BadEvent, Memory}
-use Rattle.wal_schedule.specs.Reading.{◌>>=◌, given, with_keys, whole_at, shard_at, text_at, bytes_at, id_at, side_at, axis_at, items_at, list_at}
+use Rattle.wal_schedule.specs.declared.read.ScheduleError.TheVariants.{NotJson, BadSchedule}
+use Rattle.wal_schedule.specs.declared.read.ScheduleError.TheVariants.{TooMany, BadEvent, Memory}
+use Rattle.wal_schedule.specs.Reading.{◌>>=◌, given, with_keys, whole_at, shard_at, text_at}
+use Rattle.wal_schedule.specs.Reading.{bytes_at, id_at, side_at, axis_at, items_at, list_at}
 
 -- a true reply has the shard and its side, and any other one has bytes
 abbrev pub true_reply_of : Data → Option Reply

@@ -1,5 +1,6 @@
 -- Reading the parts of a schedule from JSON values.
-use Rattle.std.specs.Prelude.{ℕ, ◌==◌, nat_le, Bool, bytes_eq, List, [], ◌∷◌, codes, Option, Some, None, if◌then◌else◌}
+use Rattle.std.specs.Prelude.{ℕ, ◌==◌, nat_le, Bool, bytes_eq, List, [], ◌∷◌, codes, Option, Some}
+use Rattle.std.specs.Prelude.{None, if◌then◌else◌}
 use Rattle.std.specs.Result.{result_ok}
 use Rattle.hex.specs.Hex.{decode_of, decode_sized}
 use Rattle.serde_json.specs.Data.{Data, Items, no_items, item, Members}
@@ -15,7 +16,7 @@ use Rattle.wal_shape.specs.declared.metadata.BlobId.{BlobId}
 infixl 10 ◌>>=◌
 abbrev pub ◌>>=◌ : {A B : Type 0} → Option A → (A → Option B) → Option B
 None >>= f = None
-(Some first) >>= f = f first
+(Some value) >>= f = f value
 
 -- the value, where it passes the test
 abbrev pub given : {A : Type 0} → Bool → A → Option A

@@ -11,7 +11,8 @@ use Rattle.wal_commit.specs.Identifier.{IsIdentifierOf}
 use Rattle.wal_event.specs.declared.event.Reply.{Reply}
 use Rattle.wal_event.specs.declared.event.Reply.TheVariants as reply
 use Rattle.wal_event.specs.declared.event.Event.{Event}
-use Rattle.wal_event.specs.declared.event.Event.TheVariants.{Register, Write, Ack, Read, Recover, Begin, Ready, Finish, Holders}
+use Rattle.wal_event.specs.declared.event.Event.TheVariants.{Register, Write, Ack, Read, Recover}
+use Rattle.wal_event.specs.declared.event.Event.TheVariants.{Begin, Ready, Finish, Holders}
 use Rattle.wal_event.specs.declared.event.Schedule.{Schedule}
 use Rattle.wal_schedule.specs.declared.drawn.SampleBlob.{SampleBlob}
 

@@ -3,7 +3,8 @@
 use Rattle.std.specs.Prelude.{◌≡◌, ℕ, List, length, map, codes}
 use Rattle.std.specs.List.{AllByRecursion}
 use Rattle.hex.specs.Hex.{IsBytes, encode_lower}
-use Rattle.serde_json.specs.Data.{Data, Members, unsigned, number, string, array, object, no_members, member}
+use Rattle.serde_json.specs.Data.{Data, Members, unsigned, number, string, array, object}
+use Rattle.serde_json.specs.Data.{no_members, member}
 use Rattle.serde_json.specs.View.{items_of}
 use Rattle.wal_shape.specs.declared.axis.Axis.{Axis}
 use Rattle.wal_shape.specs.declared.axis.Axis.TheVariants.{Primary, Secondary}
@@ -15,7 +16,9 @@ use Rattle.wal_shape.specs.declared.shape.Format.TheVariants.{One, Two}
 use Rattle.wal_event.specs.declared.event.Reply.{Reply}
 use Rattle.wal_event.specs.declared.event.Reply.TheVariants as reply
 use Rattle.wal_event.specs.declared.event.Event.{Event}
-use Rattle.wal_event.specs.declared.event.Event.TheVariants.{Register, Write, Send, Ack, Attest, Read, Recover, Forget, Begin, Ready, Finish, Certificate, Holders}
+use Rattle.wal_event.specs.declared.event.Event.TheVariants.{Register, Write, Send, Ack, Attest}
+use Rattle.wal_event.specs.declared.event.Event.TheVariants.{Read, Recover, Forget, Begin, Ready}
+use Rattle.wal_event.specs.declared.event.Event.TheVariants.{Finish, Certificate, Holders}
 use Rattle.wal_event.specs.declared.event.Schedule.{Schedule}
 
 abbrev pub number_data : ℕ → Data

@@ -3,7 +3,8 @@
 use Rattle.std.specs.Prelude.{◌≡◌, ℕ, List, Option, Some, None, Result, Ok, Err}
 use Rattle.wal_shape.specs.declared.text.MetaClash.{MetaClash}
 use Rattle.wal_frame.specs.declared.frame.FrameError.{FrameError}
-use Rattle.wal_frame.specs.declared.frame.FrameError.TheVariants.{Truncated, BadKind, BadField, Trailing}
+use Rattle.wal_frame.specs.declared.frame.FrameError.TheVariants.{Truncated, BadKind, BadField}
+use Rattle.wal_frame.specs.declared.frame.FrameError.TheVariants.{Trailing}
 use Rattle.wal_frame.specs.Frame.{Answer, Clash, frame_text}
 use Rattle.wal_ledger.specs.declared.answers.RegisterAnswer.{RegisterAnswer}
 use Rattle.wal_ledger.specs.declared.answers.RegisterAnswer.TheVariants as registering
@@ -23,7 +24,7 @@ reply code first second = record { code = code; a = first; b = second }
 
 -- what was asked is done; a is the resulting `until`, or the number of frames, or 0
 abbrev pub done : ℕ → Reply
-done first = reply 0 first 0
+done number = reply 0 number 0
 
 -- a refusal without numbers
 abbrev pub refused : ℕ → Reply
@@ -89,10 +90,10 @@ attest_reply (attesting.Invalid count) = reply 14 count 0
 
 -- what the ledger's `register` answered, whose epoch isn't changing
 abbrev pub IsRegisterReply : RegisterAnswer → Reply → Type 0
-IsRegisterReply (registering.Registered until) answer = answer ≡ done until
-IsRegisterReply registering.Past answer = answer ≡ refused 15
-IsRegisterReply registering.NoRoom answer = answer ≡ refused 10
-IsRegisterReply registering.MovingExtension answer = ⊥
+IsRegisterReply (registering.Registered until) replied = replied ≡ done until
+IsRegisterReply registering.Past replied = replied ≡ refused 15
+IsRegisterReply registering.NoRoom replied = replied ≡ refused 10
+IsRegisterReply registering.MovingExtension replied = ⊥
 
 -- a reply as a frame, and two texts of one digest as a frame
 abbrev pub reply_text : Reply → List ℕ

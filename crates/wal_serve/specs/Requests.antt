@@ -19,7 +19,8 @@ use Rattle.wal_shard.specs.State.{ShardState, desk}
 use Rattle.wal_shard.specs.Vouching.{Vouches, MayForget, without_slivers}
 use Rattle.wal_serve.specs.declared.reply.Reply.{Reply}
 use Rattle.wal_serve.specs.State.{ServedState}
-use Rattle.wal_serve.specs.Reply.{done, refused, no_shard, put_reply, refusal_reply, ack_reply, attest_reply, IsRegisterReply}
+use Rattle.wal_serve.specs.Reply.{done, refused, no_shard, put_reply, refusal_reply, ack_reply}
+use Rattle.wal_serve.specs.Reply.{attest_reply, IsRegisterReply}
 
 -- a metadata, a sliver or a proof is put to the shard, and the texts of a collision are the put
 -- metadata's and the held one's

@@ -4,7 +4,8 @@ use Rattle.wal_shape.specs.Shape.{column_count, symbol_size, most_bytes}
 use Rattle.wal_shape.specs.Metadata.{BlobMetadata, IsMetadata}
 use Rattle.wal_commit.specs.Held.{HoldsSliver}
 use Rattle.wal_evidence.specs.BadProof.{IsBadProof}
-use Rattle.wal_frame.specs.Frame.{Frame, Metadata, Sliver, Proof, Read, Symbol, Ack, Attest, Forget, RegisterEntry, AckEntry, AttestEntry}
+use Rattle.wal_frame.specs.Frame.{Frame, Metadata, Sliver, Proof, Read, Symbol, Ack, Attest, Forget}
+use Rattle.wal_frame.specs.Frame.{RegisterEntry, AckEntry, AttestEntry}
 
 -- the longest payload that is looked at: at least as long as a proof of bad encoding of the longest
 -- blob

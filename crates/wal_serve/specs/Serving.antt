@@ -1,7 +1,8 @@
 -- What serving is: envelopes that are answered one after the other, and how it ends. `C` is the
 -- state of what serves, and `Answer` says what it answers to a payload: the state before, the
 -- payload, the frames, the two texts where they end serving, the state after.
-use Rattle.std.specs.Prelude.{◌≡◌, ℕ, ◌+◌, ◌<◌, ◌≤◌, List, [], ◌∷◌, ◌++◌, length, take, Option, Some, None, IfSome, ⊤}
+use Rattle.std.specs.Prelude.{◌≡◌, ℕ, ◌+◌, ◌<◌, ◌≤◌, List, [], ◌∷◌, ◌++◌, length, take, Option}
+use Rattle.std.specs.Prelude.{Some, None, IfSome, ⊤}
 use Rattle.std.specs.List.{Contains}
 use Rattle.std.specs.Io.KnownBytes.{Consumes, Appends, IsAtEnd}
 use Rattle.wal_shape.specs.declared.text.MetaClash.{MetaClash}
@@ -9,7 +10,8 @@ use Rattle.wal_frame.specs.Frame.{envelope}
 use Rattle.wal_frame.specs.Front.{IsPart}
 use Rattle.wal_frame.specs.Stream.{IsPayload, IsStream, IsMalformed}
 use Rattle.wal_serve.specs.declared.serving.ServeEnd.{ServeEnd}
-use Rattle.wal_serve.specs.declared.serving.ServeEnd.TheVariants.{Done, ReadFault, WriteFault, Malformed, TooLong, Collision}
+use Rattle.wal_serve.specs.declared.serving.ServeEnd.TheVariants.{Done, ReadFault, WriteFault}
+use Rattle.wal_serve.specs.declared.serving.ServeEnd.TheVariants.{Malformed, TooLong, Collision}
 use Rattle.wal_serve.specs.Reply.{overlong, no_memory, reply_text, clash_text}
 use Rattle.wal_serve.specs.Saying.{sent}
 

@@ -1,6 +1,8 @@
 -- What serving does to a shard and its ledger, as the steps of the world: what each payload is as
 -- an event, and what is then.
-use Rattle.std.specs.Prelude.{◌≡◌, ◌≢◌, ◌⊎◌, ℕ, ◌-◌, ◌<◌, ◌≤◌, Bool, false, cond, not, nat_eq, nat_lt, List, [], ◌∷◌, ◌++◌, length, take, filter, Option, Some, None, Result, Ok, Err, ⊤}
+use Rattle.std.specs.Prelude.{◌≡◌, ◌≢◌, ◌⊎◌, ℕ, ◌-◌, ◌<◌, ◌≤◌, Bool, false, cond, not, nat_eq}
+use Rattle.std.specs.Prelude.{nat_lt, List, [], ◌∷◌, ◌++◌, length, take, filter, Option, Some, None}
+use Rattle.std.specs.Prelude.{Result, Ok, Err, ⊤}
 use Rattle.std.specs.List.{range_with_len, flat_map, Contains}
 use Rattle.wal_shape.specs.declared.axis.Axis.{Axis}
 use Rattle.wal_shape.specs.declared.axis.Side.TheVariants.{Now}
@@ -23,7 +25,8 @@ use Rattle.wal_event.specs.declared.line.AttestWord.{AttestWord}
 use Rattle.wal_event.specs.declared.line.AttestWord.TheVariants as attesting
 use Rattle.wal_event.specs.declared.line.ForgetWord.{ForgetWord}
 use Rattle.wal_event.specs.declared.line.ForgetWord.TheVariants as forgetting
-use Rattle.wal_frame.specs.Frame.{Frame, Metadata, Sliver, Proof, Read, Symbol, Ack, Attest, Forget, Answer, Clash, RegisterEntry, AckEntry, AttestEntry, frame_text}
+use Rattle.wal_frame.specs.Frame.{Frame, Metadata, Sliver, Proof, Read, Symbol, Ack, Attest, Forget}
+use Rattle.wal_frame.specs.Frame.{Answer, Clash, RegisterEntry, AckEntry, AttestEntry, frame_text}
 use Rattle.wal_frame.specs.Reading.{read_of}
 use Rattle.wal_frame.specs.Front.{BeginsNone}
 use Rattle.wal_store.specs.Parts.{Parts}
@@ -120,7 +123,7 @@ answer_text code first second = frame_text (Answer code first second)
 -- the answer to each word of a registration, which tells the resulting `until`; while the epoch
 -- does not change none is refused for that
 abbrev pub register_frame : RegisterWord → Option Frame
-register_frame (registering.Until most) = Some (Answer 0 most 0)
+register_frame (registering.Until until) = Some (Answer 0 until 0)
 register_frame registering.RefusedPast = Some (Answer 15 0 0)
 register_frame registering.RefusedMoving = None
 
@@ -297,7 +300,8 @@ event_if _ frames = []
 abbrev pub events_of : ℕ → ℕ → ℕ → List Exchange → List (Event × List (List ℕ))
 events_of room f own all =
     flat_map
-    (λ first. cond (nat_lt room (length first.0)) [] (event_if (meaning f own first.0) first.1)) all
+    (λ exchange. cond (nat_lt room (length exchange.0)) []
+    (event_if (meaning f own exchange.0) exchange.1)) all
 
 -- no payload that is looked at is an entry of the very shard that serves
 abbrev pub NoOwnEntry : ℕ → ℕ → ℕ → List Exchange → Type 0

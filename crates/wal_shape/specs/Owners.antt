@@ -1,5 +1,6 @@
 -- Owners: the node that runs each shard of a committee; and lists of shards.
-use Rattle.std.specs.Prelude.{ℕ, zero, suc, ◌+◌, Bool, true, not, ◌&&◌, ◌||◌, nat_eq, nat_lt, nat_le, List, [], ◌∷◌, length, slice_index}
+use Rattle.std.specs.Prelude.{ℕ, zero, suc, ◌+◌, Bool, true, not, ◌&&◌, ◌||◌, nat_eq, nat_lt}
+use Rattle.std.specs.Prelude.{nat_le, List, [], ◌∷◌, length, slice_index}
 use Rattle.std.specs.List.{list_any, list_all}
 
 -- the numbers ascend strictly, from low on, and are below n
@@ -13,8 +14,8 @@ is_ascending n numbers = ascends_from 0 n numbers
 
 -- what holds of each number below n
 abbrev pub every_below : ℕ → (ℕ → Bool) → Bool
-every_below zero counts = true
-every_below (suc n) counts = every_below n counts && counts n
+every_below zero holds = true
+every_below (suc n) holds = every_below n holds && holds n
 
 -- whether a list has a shard
 abbrev pub among : List ℕ → ℕ → Bool

@@ -1,5 +1,6 @@
 -- What a shard holds under an identifier: the four parts of wal_store's `Parts`, as bytes.
-use Rattle.std.specs.Prelude.{◌≡◌, ℕ, ◌<◌, Bool, ◌&&◌, ◌||◌, is_some, List, [], ◌∷◌, ◌++◌, Option, Some, None}
+use Rattle.std.specs.Prelude.{◌≡◌, ℕ, ◌<◌, Bool, ◌&&◌, ◌||◌, is_some, List, [], ◌∷◌, ◌++◌, Option}
+use Rattle.std.specs.Prelude.{Some, None}
 use Rattle.wal_shape.specs.declared.axis.Axis.{Axis}
 use Rattle.wal_shape.specs.declared.axis.Axis.TheVariants as axes
 use Rattle.wal_shape.specs.declared.opening.Opening.{Opening}
@@ -80,16 +81,16 @@ read_reply_of id shard parts =
 pub data OpeningReply (digest : List ℕ → List ℕ) (id : List ℕ)
     (shard : ℕ) (parts : Parts) (axis : Axis) (index : ℕ) : List (List ℕ)
     → Type 0 where
-  given : (other : BlobMetadata) (sliver : List ℕ) (opening : Opening) → HoldsMetadata parts other
+  given : (held : BlobMetadata) (sliver : List ℕ) (opening : Opening) → HoldsMetadata parts held
       → part_of parts (sliver_part (crossing axis)) ≡ Some sliver
-      → index < shard_count other.f
-      → opening.cross ≡ held_index other.format other.f (crossing axis) shard
-      → IsOpeningOf digest other axis index sliver opening
+      → index < shard_count held.f
+      → opening.cross ≡ held_index held.format held.f (crossing axis) shard
+      → IsOpeningOf digest held axis index sliver opening
       → OpeningReply digest id shard parts axis index
       (frame_text (frame.Opening id axis index opening) ∷ [])
   not_held : part_of parts (sliver_part (crossing axis)) ≡ None
       → OpeningReply digest id shard parts axis index []
-  no_shard : (other : BlobMetadata) → HoldsMetadata parts other → (index < shard_count other.f → ⊥)
+  no_shard : (held : BlobMetadata) → HoldsMetadata parts held → (index < shard_count held.f → ⊥)
       → OpeningReply digest id shard parts axis index []
 
 -- what a shard answers to a request for symbols of a sliver: the frame of the held metadata, that

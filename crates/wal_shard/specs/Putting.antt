@@ -1,5 +1,6 @@
 -- What a shard makes of metadata, slivers and proofs that are put to it.
-use Rattle.std.specs.Prelude.{◌≡◌, ◌≢◌, ℕ, ◌<◌, Bool, true, false, List, [], Option, Some, None, IsSome, unwrap_or}
+use Rattle.std.specs.Prelude.{◌≡◌, ◌≢◌, ℕ, ◌<◌, Bool, true, false, List, [], Option, Some, None}
+use Rattle.std.specs.Prelude.{IsSome, unwrap_or}
 use Rattle.wal_shape.specs.declared.metadata.BlobId.{BlobId}
 use Rattle.wal_shape.specs.Metadata.{BlobMetadata, IsMetadata, held_index}
 use Rattle.wal_shape.specs.Spelling.{metadata_text}
@@ -16,7 +17,9 @@ use Rattle.wal_frame.specs.Frame.{Frame, Metadata, Sliver, Proof}
 use Rattle.wal_frame.specs.Stored.{stored_part, stored_bytes}
 use Rattle.wal_ledger.specs.Ledger.{Log, is_live}
 use Rattle.wal_shard.specs.declared.answers.PutAnswer.{PutAnswer}
-use Rattle.wal_shard.specs.declared.answers.PutAnswer.TheVariants.{Stored, Held, Unregistered, NoMetadata, Unverified, OtherMetadata, Full, Memory}
+use Rattle.wal_shard.specs.declared.answers.PutAnswer.TheVariants.{Stored, Held, Unregistered}
+use Rattle.wal_shard.specs.declared.answers.PutAnswer.TheVariants.{NoMetadata, Unverified}
+use Rattle.wal_shard.specs.declared.answers.PutAnswer.TheVariants.{OtherMetadata, Full, Memory}
 use Rattle.wal_shard.specs.Holding.{HoldsMetadata}
 
 -- the frames that can be put

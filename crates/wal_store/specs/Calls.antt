@@ -1,4 +1,5 @@
-use Rattle.std.specs.Prelude.{◌≡◌, ◌≢◌, ℕ, ◌≤◌, Bool, false, List, [], ◌∷◌, ◌++◌, ◌⊎◌, ◌↔◌, Option, None, Result, Ok, Err, IsOk, All, length, ⊤}
+use Rattle.std.specs.Prelude.{◌≡◌, ◌≢◌, ℕ, ◌≤◌, Bool, false, List, [], ◌∷◌, ◌++◌, ◌⊎◌, ◌↔◌, Option}
+use Rattle.std.specs.Prelude.{None, Result, Ok, Err, IsOk, All, length, ⊤}
 use Rattle.std.specs.FinMap as map
 use Rattle.wal_shape.specs.declared.BlobId.{BlobId}
 use Rattle.wal_shape.specs.declared.part.Part.{Part}

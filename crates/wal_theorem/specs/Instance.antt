@@ -1,5 +1,6 @@
 -- The rules of the world by what frames, blobs, holdings, reads and recoveries are.
-use Rattle.std.specs.Prelude.{◌≡◌, ◌≢◌, ◌⊎◌, ℕ, Bool, false, is_some, nat_eq, List, [], Option, Some, None, Ok}
+use Rattle.std.specs.Prelude.{◌≡◌, ◌≢◌, ◌⊎◌, ℕ, Bool, false, is_some, nat_eq, List, [], Option}
+use Rattle.std.specs.Prelude.{Some, None, Ok}
 use Rattle.std.specs.List.{list_all}
 use Rattle.std.specs.Cmp.Lexicographic.{pointwise}
 use Rattle.wal_shape.specs.declared.metadata.BlobId.{BlobId}

@@ -1,9 +1,11 @@
 -- The sizes and the bytes of the two digests, which the laws of the trait cite.
-use Rattle.std.specs.Prelude.{◌≡◌, ℕ, zero, suc, ◌+◌, ◌%◌, ◌<◌, Bool, true, false, List, [], ◌∷◌, length, slice_index, All, ◌^◌, if◌then◌else◌, ◌==◌}
+use Rattle.std.specs.Prelude.{◌≡◌, ℕ, zero, suc, ◌+◌, ◌%◌, ◌<◌, Bool, true, false, List, [], ◌∷◌}
+use Rattle.std.specs.Prelude.{length, slice_index, All, ◌^◌, if◌then◌else◌, ◌==◌}
 use Rattle.std.proofs.Common.{arith}
 use Rattle.std.specs.List.{range_with_len}
 use Rattle.std.specs.Int.{byte_at, bytes_high_first, to_be_bytes, w32}
-use Rattle.std.proofs.lemmas.List.Elements.{All-nil, All-cons, All-head, All-tail, All-append, All-map}
+use Rattle.std.proofs.lemmas.List.Elements.{All-nil, All-cons, All-head, All-tail, All-append}
+use Rattle.std.proofs.lemmas.List.Elements.{All-map}
 use Rattle.std.proofs.lemmas.List.FromFn.{length-map-range_with_len}
 use Rattle.std.proofs.lemmas.Nat.{xor_of_8}
 use Rattle.sha2.specs.Sha256.{digest_bytes, final_hash, initial_hash_256, sha256}
@@ -54,4 +56,4 @@ pub toy32_bytes : (text : List ℕ) → All IsByte text → All IsByte (toy32 te
 unfolding toy32
 toy32_bytes text bytes =
     All-map IsByte (λ (lane : ℕ). lane_sum lane 0 text)
-    (range_with_len 0 32) (λ k index within. lane_sum-byte _ 0 text bytes)
+    (range_with_len 0 32) (λ k element within. lane_sum-byte _ 0 text bytes)

@@ -1,6 +1,7 @@
 -- The stacks of many trees that take their leaves at the same time, one tree for each row: the
 -- entries of a level lie in one column, 32 bytes for each row.
-use Rattle.std.specs.Prelude.{◌≡◌, ℕ, zero, suc, ◌*◌, List, [], ◌∷◌, ◌++◌, Option, Some, None, drop, map, take}
+use Rattle.std.specs.Prelude.{◌≡◌, ℕ, zero, suc, ◌*◌, List, [], ◌∷◌, ◌++◌, Option, Some, None, drop}
+use Rattle.std.specs.Prelude.{map, take}
 use Rattle.wal_tree.specs.Tree.{root_of}
 use Rattle.wal_tree.specs.Stack.{climb}
 

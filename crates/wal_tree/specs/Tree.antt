@@ -1,6 +1,7 @@
 -- A binary hash tree over the pieces of a text: its leaves, its levels and its root, over any
 -- digest.
-use Rattle.std.specs.Prelude.{ℕ, zero, suc, ◌/◌, List, [], ◌∷◌, ◌++◌, length, map, take, drop, replicate}
+use Rattle.std.specs.Prelude.{ℕ, zero, suc, ◌/◌, List, [], ◌∷◌, ◌++◌, length, map, take, drop}
+use Rattle.std.specs.Prelude.{replicate}
 
 -- the digest of a leaf with this content
 abbrev pub leaf : (List ℕ → List ℕ) → List ℕ → List ℕ

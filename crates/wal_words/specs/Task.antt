@@ -1,5 +1,6 @@
 -- The commands, and the words that ask for each.
-use Rattle.std.specs.Prelude.{◌≡◌, ℕ, ◌*◌, ◌≤◌, List, [], ◌∷◌, Option, Some, None, codes, decimal, Ok}
+use Rattle.std.specs.Prelude.{◌≡◌, ℕ, ◌*◌, ◌≤◌, List, [], ◌∷◌, Option, Some, None, codes, decimal}
+use Rattle.std.specs.Prelude.{Ok}
 use Rattle.hex.specs.Hex.{decode_sized}
 use Rattle.clap.specs.Faults.{fault_of}
 use Rattle.wal_shape.specs.declared.metadata.BlobId.{BlobId}
@@ -11,7 +12,9 @@ use Rattle.wal_words.specs.declared.task.Audit.{Audit}
 use Rattle.wal_words.specs.declared.task.Options.{Options}
 use Rattle.wal_words.specs.declared.task.Task.{Task}
 use Rattle.wal_words.specs.declared.task.Task.TheVariants.{Whole, Read, Serve, Sample}
-use Rattle.wal_words.specs.declared.task.WholeTask.TheVariants.{Identify, Encode, Recover, Check, Replay, Image, Unpack, Bundle, Member, Challenge, Verify, Gateway}
+use Rattle.wal_words.specs.declared.task.WholeTask.TheVariants.{Identify, Encode, Recover, Check}
+use Rattle.wal_words.specs.declared.task.WholeTask.TheVariants.{Replay, Image, Unpack, Bundle}
+use Rattle.wal_words.specs.declared.task.WholeTask.TheVariants.{Member, Challenge, Verify, Gateway}
 use Rattle.wal_words.specs.CommandLine.{program, values_in, option_in}
 
 -- the word spells a number of this range in decimal digits, with neither a sign nor a leading zero

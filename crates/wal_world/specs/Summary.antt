@@ -1,5 +1,6 @@
 -- What a run comes to: how often each thing was told.
-use Rattle.std.specs.Prelude.{◌≡◌, ℕ, ◌-◌, ◌^◌, min, List, length, sum_by, filter_map, Option, Some, None, unwrap_or}
+use Rattle.std.specs.Prelude.{◌≡◌, ℕ, ◌-◌, ◌^◌, min, List, length, sum_by, filter_map, Option, Some}
+use Rattle.std.specs.Prelude.{None, unwrap_or}
 use Rattle.std.specs.List.{reduce}
 use Rattle.std.specs.Set.{distinct_count}
 use Rattle.wal_shape.specs.declared.metadata.BlobId.{BlobId}

@@ -1,6 +1,7 @@
 -- WHAT A CALL OF THE LIBRARY RETURNS: what a run of the words over the input comes to, and what
 -- stands in the room.
-use Rattle.std.specs.Prelude.{◌≡◌, ◌⊎◌, ℕ, ◌-◌, ◌^◌, ◌<◌, ◌≤◌, min, List, ◌++◌, length, take, drop, Some, Ok}
+use Rattle.std.specs.Prelude.{◌≡◌, ◌⊎◌, ℕ, ◌-◌, ◌^◌, ◌<◌, ◌≤◌, min, List, ◌++◌, length, take, drop}
+use Rattle.std.specs.Prelude.{Some, Ok}
 use Rattle.wal_port.specs.Faults.{Rose}
 use Rattle.wal_event.specs.declared.event.Schedule.{Schedule}
 use Rattle.wal_schedule.specs.Grammar.{IsRead}

@@ -24,12 +24,14 @@ use Rattle.wal_bundle.specs.declared.answer.MemberAnswer.TheVariants.{BadIndex, 
 use Rattle.wal_bundle.specs.Member.{IsMember}
 use Rattle.wal_challenge.specs.declared.checking.AnswerVerdict.TheVariants as answer
 use Rattle.wal_schedule.specs.Grammar.{IsRead}
-use Rattle.wal_schedule.specs.declared.read.ScheduleError.TheVariants.{NotJson, BadSchedule, TooMany, BadEvent}
+use Rattle.wal_schedule.specs.declared.read.ScheduleError.TheVariants.{NotJson, BadSchedule}
+use Rattle.wal_schedule.specs.declared.read.ScheduleError.TheVariants.{TooMany, BadEvent}
 use Rattle.wal_serve.specs.declared.serving.ServeEnd.TheVariants.{Malformed, TooLong}
 use Rattle.wal_words.specs.declared.task.Audit.{Audit}
 use Rattle.wal_words.specs.declared.task.Task.{Task}
 use Rattle.wal_words.specs.declared.task.Task.TheVariants.{Whole, Read}
-use Rattle.wal_words.specs.declared.task.WholeTask.TheVariants.{Recover, Check, Image, Unpack, Bundle, Member, Challenge, Verify}
+use Rattle.wal_words.specs.declared.task.WholeTask.TheVariants.{Recover, Check, Image, Unpack}
+use Rattle.wal_words.specs.declared.task.WholeTask.TheVariants.{Bundle, Member, Challenge, Verify}
 use Rattle.wal_words.specs.Task.{IsTask, NoTask}
 use Rattle.wal_run.specs.Around.{Around}
 use Rattle.wal_run.specs.Causes.{ServesUntil}

@@ -5,7 +5,9 @@ use Rattle.wal_shape.specs.Shape.{cell_count, most_bytes}
 use Rattle.wal_words.specs.declared.task.Task.{Task}
 use Rattle.wal_words.specs.declared.task.Task.TheVariants.{Whole, Read, Serve, Sample}
 use Rattle.wal_words.specs.declared.task.WholeTask.{WholeTask}
-use Rattle.wal_words.specs.declared.task.WholeTask.TheVariants.{Identify, Encode, Recover, Check, Replay, Image, Unpack, Bundle, Member, Challenge, Verify, Gateway}
+use Rattle.wal_words.specs.declared.task.WholeTask.TheVariants.{Identify, Encode, Recover, Check}
+use Rattle.wal_words.specs.declared.task.WholeTask.TheVariants.{Replay, Image, Unpack, Bundle}
+use Rattle.wal_words.specs.declared.task.WholeTask.TheVariants.{Member, Challenge, Verify, Gateway}
 use Rattle.wal_words.specs.Task.{IsTask, NoTask}
 use Rattle.wal_shard.specs.Replying as shard
 use Rattle.wal_run.specs.Commands.{usage_text}

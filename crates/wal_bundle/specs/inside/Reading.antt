@@ -16,6 +16,6 @@ spelled_lengths index count = map (spelled_length index) (range_with_len 0 count
 
 -- what the columns of the index tell, whichever member is asked for
 abbrev pub TellsIndex : (ℕ → List ℕ → Type 0) → ℕ → ℕ → IndexAnswer → Type 0
-TellsIndex Column f size (Missing j) = (k : ℕ) → MissesColumn Column f size k j
-TellsIndex Column f size Bad = HasBadIndex Column f size
-TellsIndex Column f size (Lengths lengths) = HasIndex Column f size lengths.items
+TellsIndex Column f cell_size (Missing j) = (k : ℕ) → MissesColumn Column f cell_size k j
+TellsIndex Column f cell_size Bad = HasBadIndex Column f cell_size
+TellsIndex Column f cell_size (Lengths lengths) = HasIndex Column f cell_size lengths.items

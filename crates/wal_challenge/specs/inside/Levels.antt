@@ -1,5 +1,6 @@
 -- The levels of a hash tree, kept as bytes.
-use Rattle.std.specs.Prelude.{◌≡◌, ℕ, ◌+◌, ◌*◌, ◌/◌, ◌%◌, ◌<◌, ◌≤◌, List, ◌++◌, length, take, drop, replicate, Some, slice_get, slice_index_or}
+use Rattle.std.specs.Prelude.{◌≡◌, ℕ, ◌+◌, ◌*◌, ◌/◌, ◌%◌, ◌<◌, ◌≤◌, List, ◌++◌, length, take, drop}
+use Rattle.std.specs.Prelude.{replicate, Some, slice_get, slice_index_or}
 use Rattle.wal_tree.specs.Tree.{empty_entry, leaves}
 use Rattle.wal_tree.specs.inside.Tree.{level_above}
 

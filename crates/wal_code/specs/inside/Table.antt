@@ -10,6 +10,6 @@ pub record IsTable (known wanted : List ℕ) (table : List Gf) : Type 0 where
   pub known_below : All (λ point. point < 1000) known
   pub wanted_below : All (λ point. point < 1000) wanted
   pub size : length table ≡ length wanted * length known
-  pub entries : (at k : ℕ) → at < length wanted → k < length known →
-      element_at table (at * length known + k)
-      ≡ coefficient known (slice_index known k) (slice_index wanted at)
+  pub entries : (row k : ℕ) → row < length wanted → k < length known →
+      element_at table (row * length known + k)
+      ≡ coefficient known (slice_index known k) (slice_index wanted row)

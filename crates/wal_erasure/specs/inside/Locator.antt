@@ -1,5 +1,6 @@
 -- The locator of the missing points: the product of x + point over the points that are not known.
-use Rattle.std.specs.Prelude.{◌≡◌, ℕ, zero, suc, ◌<◌, List, [], ◌∷◌, slice_index_or, bit_xor, Bool, true, false, cond, eqb}
+use Rattle.std.specs.Prelude.{◌≡◌, ℕ, zero, suc, ◌<◌, List, [], ◌∷◌, slice_index_or, bit_xor, Bool}
+use Rattle.std.specs.Prelude.{true, false, cond, eqb}
 use Rattle.wal_gf.specs.Field.{times, inverse}
 use Rattle.wal_gf.specs.declared.Gf.{Gf}
 use Rattle.wal_code.specs.Weights.{element_at}
@@ -24,7 +25,7 @@ abbrev pub AreMarks : List ℕ → ℕ → List Bool → Type 0
 AreMarks known n marks =
     (point : ℕ) → point < n → slice_index_or marks point false ≡ is_known known point
 
--- at each known point below n the product over the missing points, and at each missing one the
+-- at each known point below `end` the product over the missing points, and at each missing one the
 -- inverse of that over the others
 abbrev pub AreFactors : List ℕ → ℕ → ℕ → List Gf → Type 0
 AreFactors known n end factors =

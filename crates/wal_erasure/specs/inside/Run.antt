@@ -31,18 +31,18 @@ pub record AreTaken (words start width count : ℕ)
   pub products : (word : ℕ) → word < width → (i : ℕ) → i < count
       → word_at new (words * i + (start + word))
       ≡ times (element_at factors i) (lane width strip word i)
-  pub before : (i point : ℕ) → point < start
-      → word_at new (words * i + point) ≡ word_at old (words * i + point)
+  pub before : (i place : ℕ) → place < start
+      → word_at new (words * i + place) ≡ word_at old (words * i + place)
 
 -- the words from `start` to below `end` of the regions of missing points are sums of coefficients,
 -- and the words before them are kept
 pub record AreSolved (words start end wanted : ℕ) (known sources old new : List ℕ) : Type 0 where
-  pub sums : (point : ℕ) → start ≤ point → point < end → (x : ℕ) → x < wanted
+  pub sums : (place : ℕ) → start ≤ place → place < end → (x : ℕ) → x < wanted
       → is_known known x ≡ false
-      → word_at new (words * x + point)
-      ≡ combination known (λ k. word_at sources (words * k + point)) x
-  pub before : (i point : ℕ) → point < start
-      → word_at new (words * i + point) ≡ word_at old (words * i + point)
+      → word_at new (words * x + place)
+      ≡ combination known (λ k. word_at sources (words * k + place)) x
+  pub before : (i place : ℕ) → place < start
+      → word_at new (words * i + place) ≡ word_at old (words * i + place)
 
 -- region `to` is the source's region `from`, and the others are kept
 pub record IsCopy (words from to : ℕ) (sources old new : List ℕ) : Type 0 where

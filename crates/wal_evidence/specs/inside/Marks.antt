@@ -1,5 +1,6 @@
 -- A flag for each shard that stands in a list.
-use Rattle.std.specs.Prelude.{◌≡◌, ◌↔◌, ℕ, ◌<◌, Bool, false, List, length, slice_index_or, IsTrue, Contains}
+use Rattle.std.specs.Prelude.{◌≡◌, ◌↔◌, ℕ, ◌<◌, Bool, false, List, length, slice_index_or, IsTrue}
+use Rattle.std.specs.Prelude.{Contains}
 
 -- the most shards
 abbrev pub most_shards : ℕ

@@ -1,10 +1,12 @@
 -- What serves private functions and proofs beside Reading.
-use Rattle.std.specs.Prelude.{◌≡◌, ◌≢◌, ℕ, ◌+◌, ◌<◌, ◌≤◌, ⊤, Bool, List, [], ◌∷◌, ◌++◌, length, drop, get_or, Option, Some, None, Result, Ok, Err}
+use Rattle.std.specs.Prelude.{◌≡◌, ◌≢◌, ℕ, ◌+◌, ◌<◌, ◌≤◌, ⊤, Bool, List, [], ◌∷◌, ◌++◌, length}
+use Rattle.std.specs.Prelude.{drop, get_or, Option, Some, None, Result, Ok, Err}
 use Rattle.wal_shape.specs.Shape.{most_bytes}
 use Rattle.wal_store.specs.Contents.{Contents}
 use Rattle.wal_store.specs.Calls.{Call, after_call, IsLawfulCall}
 use Rattle.wal_journal.specs.declared.open.OpenFault.{OpenFault}
-use Rattle.wal_journal.specs.declared.open.OpenFault.TheVariants.{DiskFault, BadRecord, Full, Memory}
+use Rattle.wal_journal.specs.declared.open.OpenFault.TheVariants.{DiskFault, BadRecord, Full}
+use Rattle.wal_journal.specs.declared.open.OpenFault.TheVariants.{Memory}
 use Rattle.wal_journal.specs.declared.record.Head.{Head}
 use Rattle.wal_journal.specs.declared.record.Change.{Change}
 use Rattle.wal_journal.specs.declared.record.Change.TheVariants as read

@@ -1,5 +1,6 @@
 -- Vectors of bytes, lane by lane, and tables of products.
-use Rattle.std.specs.Prelude.{◌≡◌, ℕ, ◌+◌, ◌*◌, ◌^◌, ◌/◌, ◌%◌, ◌<◌, List, length, slice_index, bit_xor}
+use Rattle.std.specs.Prelude.{◌≡◌, ℕ, ◌+◌, ◌*◌, ◌^◌, ◌/◌, ◌%◌, ◌<◌, List, length, slice_index}
+use Rattle.std.specs.Prelude.{bit_xor}
 use Rattle.wal_gf.specs.Field.{times}
 use Rattle.wal_kernel.specs.declared.products.Multiples.{Multiples}
 use Rattle.wal_kernel.specs.declared.products.NibbleTables.{NibbleTables}

@@ -1,5 +1,6 @@
 -- What serves private functions and proofs beside Region.
-use Rattle.std.specs.Prelude.{◌≡◌, ℕ, ◌/◌, ◌%◌, ◌<◌, ◌≤◌, ◌==◌, if◌then◌else◌, List, length, slice_index, bit_xor}
+use Rattle.std.specs.Prelude.{◌≡◌, ℕ, ◌/◌, ◌%◌, ◌<◌, ◌≤◌, ◌==◌, if◌then◌else◌, List, length}
+use Rattle.std.specs.Prelude.{slice_index, bit_xor}
 use Rattle.wal_gf.specs.Field.{times}
 use Rattle.wal_kernel.specs.Region.{word_at}
 

@@ -1,5 +1,6 @@
 -- Eight words or states of SHA-256 at a time, one in each lane.
-use Rattle.std.specs.Prelude.{◌≡◌, ℕ, ◌+◌, ◌-◌, ◌*◌, ◌/◌, ◌%◌, ◌<◌, List, [], ◌∷◌, ◌++◌, length, map, take, drop, slice_index}
+use Rattle.std.specs.Prelude.{◌≡◌, ℕ, ◌+◌, ◌-◌, ◌*◌, ◌/◌, ◌%◌, ◌<◌, List, [], ◌∷◌, ◌++◌, length}
+use Rattle.std.specs.Prelude.{map, take, drop, slice_index}
 use Rattle.sha2.specs.Sha256.{padding}
 use Rattle.wal_lanes.specs.declared.block.State.{State}
 

@@ -1,5 +1,6 @@
 -- Texts that are hashed strip by strip: a prefix byte and a piece each, eight texts to a group.
-use Rattle.std.specs.Prelude.{◌≡◌, ℕ, ◌+◌, ◌*◌, ◌/◌, ◌<◌, List, ◌∷◌, drop, slice_get, slice_index, Some}
+use Rattle.std.specs.Prelude.{◌≡◌, ℕ, ◌+◌, ◌*◌, ◌/◌, ◌<◌, List, ◌∷◌, drop, slice_get, slice_index}
+use Rattle.std.specs.Prelude.{Some}
 use Rattle.sha2.specs.Sha256.{hash_after, initial_hash_256, padded_message}
 use Rattle.wal_lanes.specs.declared.strips.Group.{Group}
 use Rattle.wal_lanes.specs.inside.Lanes.{lane}

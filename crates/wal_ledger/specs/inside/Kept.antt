@@ -9,7 +9,8 @@ use Rattle.wal_ledger.specs.Shards.{committee_size}
 use Rattle.wal_ledger.specs.inside.Flags.{flag_of}
 use Rattle.wal_ledger.specs.inside.Rows.{Rows, IsRow, row_in, living}
 use Rattle.wal_ledger.specs.inside.Book.{BookState}
-use Rattle.wal_ledger.specs.Ledger.{Log, reading, is_moving, owners_at, owners_of, registered, own_entries, ready_shards, ready_total}
+use Rattle.wal_ledger.specs.Ledger.{Log, reading, is_moving, owners_at, owners_of, registered}
+use Rattle.wal_ledger.specs.Ledger.{own_entries, ready_shards, ready_total}
 use Rattle.wal_ledger.specs.Kept.{IsLawful}
 
 -- the ledger of entries from an epoch on with its owners

@@ -1,5 +1,7 @@
 -- A table of identifiers and the rows that are kept for them.
-use Rattle.std.specs.Prelude.{◌≡◌, ℕ, ◌<◌, ◌≤◌, max, false, cond, nat_le, nat_lt, List, [], ◌∷◌, length, map, filter, replicate, slice_index_or, All, HoldsAt, Contains}
+use Rattle.std.specs.Prelude.{◌≡◌, ℕ, ◌<◌, ◌≤◌, max, false, cond, nat_le, nat_lt, List, [], ◌∷◌}
+use Rattle.std.specs.Prelude.{length, map, filter, replicate, slice_index_or, All, HoldsAt}
+use Rattle.std.specs.Prelude.{Contains}
 use Rattle.std.specs.List.{insert}
 use Rattle.std.specs.BTreeSet.{insert_key}
 use Rattle.wal_shape.specs.declared.metadata.BlobId.{BlobId}

@@ -1,5 +1,6 @@
 -- A row of symbols that begins with a part of a blob.
-use Rattle.std.specs.Prelude.{◌≡◌, ℕ, ◌+◌, ◌-◌, ◌*◌, ◌<◌, List, length, take, drop, ◌++◌, replicate, slice_index}
+use Rattle.std.specs.Prelude.{◌≡◌, ℕ, ◌+◌, ◌-◌, ◌*◌, ◌<◌, List, length, take, drop, ◌++◌, replicate}
+use Rattle.std.specs.Prelude.{slice_index}
 use Rattle.wal_code.specs.Codeword.{IsCodeword}
 use Rattle.wal_kernel.specs.Region.{word_at, region}
 

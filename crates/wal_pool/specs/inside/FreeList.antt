@@ -1,4 +1,5 @@
-use Rattle.std.specs.Prelude.{ℕ, zero, suc, ◌*◌, Bool, true, ◌&&◌, not, List, [], ◌∷◌, map, take, drop, nat_eq, nat_lt, if◌then◌else◌}
+use Rattle.std.specs.Prelude.{ℕ, zero, suc, ◌*◌, Bool, true, ◌&&◌, not, List, [], ◌∷◌, map, take}
+use Rattle.std.specs.Prelude.{drop, nat_eq, nat_lt, if◌then◌else◌}
 use Rattle.std.specs.List.{list_any, range_with_len}
 use Rattle.std.specs.Int.{w32, from_be_bytes}
 use Rattle.wal_pool.specs.Pages.{PageState, Free, Taken}

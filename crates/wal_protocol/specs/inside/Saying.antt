@@ -6,7 +6,8 @@ use Rattle.wal_ledger.specs.Shards.{quorum_size}
 use Rattle.wal_ledger.specs.Ledger.{is_live, until_of, writing}
 use Rattle.wal_ledger.specs.Answers.{IsOpen}
 use Rattle.wal_protocol.specs.declared.said.Said.{Said}
-use Rattle.wal_protocol.specs.declared.said.Said.TheVariants.{Unregistered, Expires, Declined, Already, Counted, Quorum}
+use Rattle.wal_protocol.specs.declared.said.Said.TheVariants.{Unregistered, Expires, Declined}
+use Rattle.wal_protocol.specs.declared.said.Said.TheVariants.{Already, Counted, Quorum}
 use Rattle.wal_protocol.specs.State.{World}
 use Rattle.wal_protocol.specs.Step.{Declines, SaidBefore, ClaimStep}
 

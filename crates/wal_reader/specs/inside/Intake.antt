@@ -1,5 +1,6 @@
 -- What serves private functions and proofs beside Intake.
-use Rattle.std.specs.Prelude.{◌≡◌, ℕ, ◌+◌, ◌<◌, ◌≤◌, Bool, true, false, List, [], ◌∷◌, ◌++◌, length, None, vec_capacity}
+use Rattle.std.specs.Prelude.{◌≡◌, ℕ, ◌+◌, ◌<◌, ◌≤◌, Bool, true, false, List, [], ◌∷◌, ◌++◌, length}
+use Rattle.std.specs.Prelude.{None, vec_capacity}
 use Rattle.wal_frame.specs.Frame.{envelope}
 use Rattle.wal_frame.specs.Front.{IsPart}
 use Rattle.wal_frame.specs.Stream.{IsPayload, size_in, envelope_at}

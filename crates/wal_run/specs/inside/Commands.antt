@@ -3,7 +3,9 @@ use Rattle.std.specs.Prelude.{◌≤◌, ⊤}
 use Rattle.wal_words.specs.declared.task.Task.{Task}
 use Rattle.wal_words.specs.declared.task.Task.TheVariants.{Whole, Read, Serve, Sample}
 use Rattle.wal_words.specs.declared.task.WholeTask.{WholeTask}
-use Rattle.wal_words.specs.declared.task.WholeTask.TheVariants.{Identify, Encode, Recover, Image, Bundle, Member, Challenge, Verify, Gateway}
+use Rattle.wal_words.specs.declared.task.WholeTask.TheVariants.{Identify, Encode, Recover, Image}
+use Rattle.wal_words.specs.declared.task.WholeTask.TheVariants.{Bundle, Member, Challenge, Verify}
+use Rattle.wal_words.specs.declared.task.WholeTask.TheVariants.{Gateway}
 use Rattle.wal_run.specs.inside.Serving.{MayServe}
 
 -- the numbers of a task are in their range, where the code rests on it

@@ -1,7 +1,8 @@
 -- What serves private functions and proofs beside Reading.
 use Rattle.std.specs.Prelude.{ℕ, List, codes}
 use Rattle.wal_reader.specs.declared.outcome.Outcome.{Outcome}
-use Rattle.wal_reader.specs.declared.outcome.Outcome.TheVariants.{Bytes, Reject, Short, NoMetadata, Collision}
+use Rattle.wal_reader.specs.declared.outcome.Outcome.TheVariants.{Bytes, Reject, Short, NoMetadata}
+use Rattle.wal_reader.specs.declared.outcome.Outcome.TheVariants.{Collision}
 use Rattle.wal_run.specs.Lines.{collision_text, short_text}
 
 abbrev pub outcome_status : Outcome → ℕ

@@ -1,7 +1,14 @@
 -- Why a command has no answer: the status and the line of each refusal.
 use Rattle.std.specs.Prelude.{ℕ, List, [], ◌++◌, codes, decimal}
 use Rattle.wal_run.specs.declared.refusal.Refusal.{Refusal}
-use Rattle.wal_run.specs.declared.refusal.Refusal.TheVariants.{Reject, BadIndex, Wrong, Checked, NoMetadata, NoProof, NoShard, NoPrimary, NoSecondary, Short, WrongCount, MissingColumn, NoMember, TooManyMembers, BundleTooLong, DiskFull, Memory, Malformed, NotJson, BadSchedule, TooManyEvents, BadEvent, MetadataClash, Collision}
+use Rattle.wal_run.specs.declared.refusal.Refusal.TheVariants.{Reject, BadIndex, Wrong, Checked}
+use Rattle.wal_run.specs.declared.refusal.Refusal.TheVariants.{NoMetadata, NoProof, NoShard}
+use Rattle.wal_run.specs.declared.refusal.Refusal.TheVariants.{NoPrimary, NoSecondary, Short}
+use Rattle.wal_run.specs.declared.refusal.Refusal.TheVariants.{WrongCount, MissingColumn, NoMember}
+use Rattle.wal_run.specs.declared.refusal.Refusal.TheVariants.{TooManyMembers, BundleTooLong}
+use Rattle.wal_run.specs.declared.refusal.Refusal.TheVariants.{DiskFull, Memory, Malformed, NotJson}
+use Rattle.wal_run.specs.declared.refusal.Refusal.TheVariants.{BadSchedule, TooManyEvents, BadEvent}
+use Rattle.wal_run.specs.declared.refusal.Refusal.TheVariants.{MetadataClash, Collision}
 use Rattle.wal_run.specs.Checking.{verdict_text}
 use Rattle.wal_run.specs.Imaging.{disk_full_text}
 use Rattle.wal_run.specs.Lines.{collision_text, malformed_text, number_text, short_text}

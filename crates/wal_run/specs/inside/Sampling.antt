@@ -7,6 +7,6 @@ use Rattle.wal_run.specs.Sampling.{summary_text}
 
 -- the status and the text of what a run comes to
 abbrev pub IsSumText : Summed → ℕ → List ℕ → Type 0
-IsSumText (summed.Whole code) status text = (status ≡ 0) × (text ≡ summary_text code)
+IsSumText (summed.Whole summary) status text = (status ≡ 0) × (text ≡ summary_text summary)
 IsSumText (summed.Collision clash) status text =
     (status ≡ 10) × (text ≡ collision_text clash.left clash.right)

@@ -1,7 +1,8 @@
 -- What serves private functions and proofs beside Unbundling.
 use Rattle.std.specs.Prelude.{ℕ, List, codes}
 use Rattle.wal_bundle.specs.declared.answer.MemberAnswer.{MemberAnswer}
-use Rattle.wal_bundle.specs.declared.answer.MemberAnswer.TheVariants.{BadIndex, Collision, Member, Missing, NoMember, NoMetadata}
+use Rattle.wal_bundle.specs.declared.answer.MemberAnswer.TheVariants.{BadIndex, Collision, Member}
+use Rattle.wal_bundle.specs.declared.answer.MemberAnswer.TheVariants.{Missing, NoMember, NoMetadata}
 use Rattle.wal_run.specs.Lines.{collision_text, number_text}
 
 abbrev pub member_status : MemberAnswer → ℕ

@@ -1,7 +1,8 @@
 -- What serves private functions and proofs beside Verifying.
 use Rattle.std.specs.Prelude.{ℕ}
 use Rattle.wal_challenge.specs.declared.checking.AnswerVerdict.{AnswerVerdict}
-use Rattle.wal_challenge.specs.declared.checking.AnswerVerdict.TheVariants.{Accepted, Wrong, WrongCount}
+use Rattle.wal_challenge.specs.declared.checking.AnswerVerdict.TheVariants.{Accepted, Wrong}
+use Rattle.wal_challenge.specs.declared.checking.AnswerVerdict.TheVariants.{WrongCount}
 
 abbrev pub verdict_status : AnswerVerdict → ℕ
 verdict_status (WrongCount k) = 4

@@ -1,5 +1,6 @@
 -- What serves private functions and proofs beside Grammar.
-use Rattle.std.specs.Prelude.{◌≡◌, ℕ, ◌+◌, ◌&&◌, nat_le, bytes_eq, codes, if◌then◌else◌, List, ◌++◌, Option, Result, Ok, Err, ⊤, IsTrue, ◌≤◌}
+use Rattle.std.specs.Prelude.{◌≡◌, ℕ, ◌+◌, ◌&&◌, nat_le, bytes_eq, codes, if◌then◌else◌, List, ◌++◌}
+use Rattle.std.specs.Prelude.{Option, Result, Ok, Err, ⊤, IsTrue, ◌≤◌}
 use Rattle.serde_json.specs.Data.{Data}
 use Rattle.wal_shape.specs.declared.shape.Format.{Format}
 use Rattle.wal_shape.specs.Shape.{shard_count}
@@ -8,9 +9,11 @@ use Rattle.wal_event.specs.declared.event.Event.{Event}
 use Rattle.wal_event.specs.declared.event.Schedule.{Schedule}
 use Rattle.wal_schedule.specs.declared.read.Head.{Head}
 use Rattle.wal_schedule.specs.declared.read.ScheduleError.{ScheduleError}
-use Rattle.wal_schedule.specs.declared.read.ScheduleError.TheVariants.{NotJson, BadSchedule, TooMany, BadEvent, Memory}
+use Rattle.wal_schedule.specs.declared.read.ScheduleError.TheVariants.{NotJson, BadSchedule}
+use Rattle.wal_schedule.specs.declared.read.ScheduleError.TheVariants.{TooMany, BadEvent, Memory}
 use Rattle.wal_schedule.specs.Reading.{◌>>=◌, given, list_at, with_keys}
-use Rattle.wal_schedule.specs.Grammar.{attest_of, forget_of, later_named, one_if_has, owners_at, read_of, recover_of}
+use Rattle.wal_schedule.specs.Grammar.{attest_of, forget_of, later_named, one_if_has, owners_at}
+use Rattle.wal_schedule.specs.Grammar.{read_of, recover_of}
 
 -- the event of this name, where it is none of the first four
 abbrev pub held_named : ℕ → Data → List ℕ → Option Event

@@ -1,5 +1,6 @@
 -- Taking one envelope of a source.
-use Rattle.std.specs.Prelude.{◌≡◌, ℕ, ◌<◌, ◌≤◌, ◌^◌, List, [], ◌∷◌, ◌++◌, length, Option, Some, None, Result, Ok, Err}
+use Rattle.std.specs.Prelude.{◌≡◌, ℕ, ◌<◌, ◌≤◌, ◌^◌, List, [], ◌∷◌, ◌++◌, length, Option, Some}
+use Rattle.std.specs.Prelude.{None, Result, Ok, Err}
 use Rattle.std.specs.Int.{w16, w32}
 use Rattle.std.specs.Io.KnownBytes.{Consumes, IsAtEnd}
 use Rattle.wal_shape.specs.Spelling.{number_text}
@@ -9,7 +10,8 @@ use Rattle.wal_frame.specs.Stream.{IsPayload}
 use Rattle.wal_serve.specs.declared.taking.Took.{Took}
 use Rattle.wal_serve.specs.declared.taking.Took.TheVariants as took
 use Rattle.wal_serve.specs.declared.envelopes.Lack.{Lack}
-use Rattle.wal_serve.specs.declared.envelopes.Lack.TheVariants.{Nothing, Wrong, Cut, TooLong, Failed}
+use Rattle.wal_serve.specs.declared.envelopes.Lack.TheVariants.{Nothing, Wrong, Cut, TooLong}
+use Rattle.wal_serve.specs.declared.envelopes.Lack.TheVariants.{Failed}
 use Rattle.wal_serve.specs.inside.Payload.{PayloadRoom}
 
 -- why no whole envelope was taken, of which at most `most` bytes may be taken, and the bytes that

@@ -1,12 +1,14 @@
 -- What serves private functions and proofs beside Serving.
-use Rattle.std.specs.Prelude.{◌≡◌, ℕ, ◌≤◌, List, [], ◌∷◌, length, Option, Some, None, Result, Ok, Err, ⊤}
+use Rattle.std.specs.Prelude.{◌≡◌, ℕ, ◌≤◌, List, [], ◌∷◌, length, Option, Some, None, Result, Ok}
+use Rattle.std.specs.Prelude.{Err, ⊤}
 use Rattle.std.specs.Io.KnownBytes.{Consumes, Appends}
 use Rattle.wal_shape.specs.declared.text.MetaClash.{MetaClash}
 use Rattle.wal_port.specs.declared.transfers.WriteFault as port
 use Rattle.wal_serve.specs.declared.envelopes.Lack.{Lack}
 use Rattle.wal_serve.specs.declared.envelopes.Lack.TheVariants as lack
 use Rattle.wal_serve.specs.declared.serving.ServeEnd.{ServeEnd}
-use Rattle.wal_serve.specs.declared.serving.ServeEnd.TheVariants.{Done, ReadFault, Malformed, TooLong}
+use Rattle.wal_serve.specs.declared.serving.ServeEnd.TheVariants.{Done, ReadFault, Malformed}
+use Rattle.wal_serve.specs.declared.serving.ServeEnd.TheVariants.{TooLong}
 use Rattle.wal_serve.specs.Reply.{clash_text}
 use Rattle.wal_serve.specs.Saying.{sent}
 use Rattle.wal_port.specs.Appending.{AppendsPart}

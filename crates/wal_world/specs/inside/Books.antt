@@ -15,26 +15,26 @@ use Rattle.wal_world.specs.declared.books.Books.TheVariants.{Serving, Moving}
 
 -- the ledger of the books, and the faulty shards of each side
 abbrev pub ledger_of : Option Books → LedgerState
-ledger_of (Some (Serving shard)) = shard.ledger
-ledger_of (Some (Moving metadata)) = metadata.ledger
+ledger_of (Some (Serving serving)) = serving.ledger
+ledger_of (Some (Moving moving)) = moving.ledger
 ledger_of None = record { log = record { f = 0; first = 0; owners = []; entries = [] }; spare = 0 }
 
 abbrev pub faulty_on : Side → Option Books → List ℕ
-faulty_on Now (Some (Serving shard)) = shard.faulty
-faulty_on Now (Some (Moving metadata)) = metadata.faulty_now
-faulty_on Next (Some (Moving metadata)) = metadata.faulty_next
+faulty_on Now (Some (Serving serving)) = serving.faulty
+faulty_on Now (Some (Moving moving)) = moving.faulty_now
+faulty_on Next (Some (Moving moving)) = moving.faulty_next
 faulty_on _ _ = []
 
 -- the books are there, and the ledger says whether the epoch changes
 abbrev pub AreBooks : Option Books → Type 0
-AreBooks (Some (Serving shard)) = is_moving shard.ledger.log ≡ false
-AreBooks (Some (Moving metadata)) = is_moving metadata.ledger.log ≡ true
+AreBooks (Some (Serving serving)) = is_moving serving.ledger.log ≡ false
+AreBooks (Some (Moving moving)) = is_moving moving.ledger.log ≡ true
 AreBooks None = ⊥
 
 -- the same books, but for the ledger
 abbrev pub books_with : Option Books → LedgerState → Option Books
-books_with (Some (Serving shard)) ledger = Some (Serving (record shard { ledger = ledger }))
-books_with (Some (Moving metadata)) ledger = Some (Moving (record metadata { ledger = ledger }))
+books_with (Some (Serving serving)) ledger = Some (Serving (record serving { ledger = ledger }))
+books_with (Some (Moving moving)) ledger = Some (Moving (record moving { ledger = ledger }))
 books_with None ledger = None
 
 -- the epoch began to change, to a committee with these owners and faulty shards

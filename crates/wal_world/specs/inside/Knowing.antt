@@ -34,7 +34,7 @@ pub record IsOnly (digest : List ℕ → List ℕ) (id : BlobId) (parts : Parts)
 abbrev pub AreKnown : (List ℕ → List ℕ) → BlobId → Parts → List (List ℕ) → Known → Type 0
 AreKnown digest id parts payloads Absent =
     (metadata : BlobMetadata) → Knows digest id parts payloads metadata → ⊥
-AreKnown digest id parts payloads (One moving) = IsOnly digest id parts payloads moving
+AreKnown digest id parts payloads (One metadata) = IsOnly digest id parts payloads metadata
 AreKnown digest id parts payloads (Two collision) =
     KnowsTwo digest id parts payloads × IsCollision digest collision.left collision.right
 

@@ -1,5 +1,6 @@
 -- The network that keeps a state of the world.
-use Rattle.std.specs.Prelude.{◌≡◌, ℕ, ◌+◌, ◌<◌, ◌≤◌, List, [], length, map, Option, Some, None, slice_index_or}
+use Rattle.std.specs.Prelude.{◌≡◌, ℕ, ◌+◌, ◌<◌, ◌≤◌, List, [], length, map, Option, Some, None}
+use Rattle.std.specs.Prelude.{slice_index_or}
 use Rattle.std.specs.List.{range_with_len}
 use Rattle.std.specs.FinMap.{from_sorted}
 use Rattle.std.specs.BTreeMap.{IsOrdered}
@@ -20,7 +21,7 @@ use Rattle.wal_world.specs.inside.Members.{members_of}
 use Rattle.wal_world.specs.declared.network.Network.{Network}
 
 abbrev pub contents_in : List ShardState → List Contents
-contents_in shards = map (λ serving. serving.contents) shards
+contents_in shards = map (λ state. state.contents) shards
 
 -- the state of the world that a network keeps
 abbrev pub world_of : {H : Type 0} → Network H → World

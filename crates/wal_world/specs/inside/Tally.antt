@@ -1,5 +1,6 @@
 -- What is counted of the lines so far.
-use Rattle.std.specs.Prelude.{◌≡◌, ◌-◌, ◌^◌, min, List, [], ◌∷◌, ◌++◌, length, sum_by, filter_map, Option, Some, None}
+use Rattle.std.specs.Prelude.{◌≡◌, ◌-◌, ◌^◌, min, List, [], ◌∷◌, ◌++◌, length, sum_by, filter_map}
+use Rattle.std.specs.Prelude.{Option, Some, None}
 use Rattle.std.specs.List.{reduce}
 use Rattle.std.specs.BTreeSet.{IsFromIterResult}
 use Rattle.wal_shape.specs.Identifiers.{id_cmp}

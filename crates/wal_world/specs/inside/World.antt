@@ -30,14 +30,14 @@ pub record IsWorld {H : Type 0} (digest : List ℕ → List ℕ)
 abbrev log_code : Coded Log
 log_code =
     code_by LedgerState ledger.the_row.coded
-    (λ kept. record { log = kept; spare = 0 }) (λ serving. serving.log) (λ _. refl)
+    (λ kept. record { log = kept; spare = 0 }) (λ state. state.log) (λ _. refl)
 
 -- a committee is stored as the pair of its lists
 abbrev committee_code : Coded Committee
 committee_code =
     code_by (List ℕ × List Contents)
     (coded× (coded_list coded_ℕ) (coded_list (finmap.code id_code parts_code)))
-    (λ collision. (collision.faulty, collision.shards))
+    (λ committee. (committee.faulty, committee.shards))
     (λ tuple. record { faulty = tuple.0; shards = tuple.1 }) (λ _. refl)
 
 -- a state is stored as the tuple of its parts

@@ -3,7 +3,9 @@ use Rattle.std.specs.Prelude.{◌≤◌}
 use Rattle.wal_words.specs.declared.task.Task.{Task}
 use Rattle.wal_words.specs.declared.task.Task.TheVariants.{Whole, Read, Serve, Sample}
 use Rattle.wal_words.specs.declared.task.WholeTask.{WholeTask}
-use Rattle.wal_words.specs.declared.task.WholeTask.TheVariants.{Challenge, Check, Encode, Identify, Image, Recover, Replay, Unpack, Bundle, Member, Verify, Gateway}
+use Rattle.wal_words.specs.declared.task.WholeTask.TheVariants.{Challenge, Check, Encode, Identify}
+use Rattle.wal_words.specs.declared.task.WholeTask.TheVariants.{Image, Recover, Replay, Unpack}
+use Rattle.wal_words.specs.declared.task.WholeTask.TheVariants.{Bundle, Member, Verify, Gateway}
 
 -- of a task that takes its whole input at once
 abbrev pub WholeInRange : WholeTask → Type 0
