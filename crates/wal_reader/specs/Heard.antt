@@ -71,7 +71,7 @@ HasKept digest id (Two clash) payloads =
     × IsCollision digest clash.left clash.right
     × AreDigestedFor digest one other clash.left clash.right
 
--- enough slivers are held for the one metadata that there is
+-- enough slivers are held, or two metadata differ
 abbrev pub IsSettledKept : Kept → Type 0
 IsSettledKept (Waiting parts) = ⊥
 IsSettledKept (One known) = IsEnough known
@@ -86,6 +86,6 @@ pub record HeardState : Type 0 where
 abbrev pub HasHeard : (List ℕ → List ℕ) → List ℕ → HeardState → List (List ℕ) → Type 0
 HasHeard digest id heard payloads = (heard.id ≡ id) × HasKept digest heard.id heard.kept payloads
 
--- nothing but a second metadata can change the answer
+-- nothing but two metadata that differ can change the answer
 abbrev pub IsSettledState : HeardState → Type 0
 IsSettledState heard = IsSettledKept heard.kept
