@@ -12,13 +12,13 @@ use Rattle.wal_shape.specs.declared.axis.Side.{Side}
 use Rattle.wal_shape.specs.declared.axis.Side.TheVariants.{Now, Next}
 use Rattle.wal_shape.specs.declared.metadata.BlobId.{BlobId}
 
--- what f makes of the value, where there is one
+-- what f makes of the value, if there is one
 infixl 10 ◌>>=◌
 abbrev pub ◌>>=◌ : {A B : Type 0} → Option A → (A → Option B) → Option B
 None >>= f = None
 (Some value) >>= f = f value
 
--- the value, where it passes the test
+-- the value, if the test passes
 abbrev pub given : {A : Type 0} → Bool → A → Option A
 given test x = if test then Some x else None
 
@@ -31,7 +31,7 @@ keys_in (Some members) = members_len members
 abbrev pub key_count : Data → ℕ
 key_count value = keys_in (as_object value)
 
--- the value, where the object has this number of keys: as each of them was found, it has no others
+-- the value, if the object has this number of keys: as each of them was found, it has no others
 abbrev pub with_keys : {A : Type 0} → ℕ → Data → A → Option A
 with_keys count value x = given (key_count value == count) x
 
