@@ -46,7 +46,8 @@ class Etcd(unittest.TestCase):
         for name in " ".join(told["UnsetEnvironment"]).split():
             del variables[name]
         words = [it.replace("${CREDENTIALS_DIRECTORY}", str(self.given)) for it in shlex.split(told["ExecStart"][0])]
-        ran = subprocess.Popen([str(shutil.which(words[0])), *words[1:]], env=variables)
+        words[0] = str(shutil.which(words[0]))
+        ran = subprocess.Popen(words, env=variables, stderr=subprocess.DEVNULL)
         self.addCleanup(ran.wait)
         self.addCleanup(ran.kill)
         return ran
