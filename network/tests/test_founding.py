@@ -106,7 +106,7 @@ class Found(FoundingCase):
             with self.subTest(words=words), self.assertRaisesRegex(Unfounded, "a machine cannot be called recorder"):
                 await self.says("found", self.folder, "--faults", 1, "--concentrated", "--ledger", *words)
             self.assertFalse(self.folder.exists())
-        long = [f"{it * 64}=h{it}:1*100" for it in "abcdefghij"]
+        long = [f"{it * 32}.{it * 31}=h{it}:1*100" for it in "abcdefghij"]
         with self.assertRaisesRegex(Unfounded, "the names of 1000 shards are too long"):
             await self.says("found", self.folder, "--faults", 333, "--ledger", "alpha", *long)
         await self.found()
