@@ -1073,19 +1073,6 @@ class Committees(NodeCase):
         self.assertEqual(node.posted, [])
 
 
-class Start(unittest.TestCase):
-    def test_what_was_committed_before_a_kill_is_on_the_disk_before_anything_is_said_of_it(self) -> None:
-        synced = list[str]()
-
-        def sync(file: Any) -> None:
-            synced.append(os.readlink(f"/proc/self/fd/{file if isinstance(file, int) else file.fileno()}"))
-
-        with tempfile.TemporaryDirectory() as folder, mock.patch.object(os, "fsync", sync):
-            path = pathlib.Path(folder).resolve() / "a.db"
-            Store(path).close()
-            self.assertLessEqual({f"{path}-wal", str(path.parent)}, {*synced})
-
-
 class Slow(unittest.IsolatedAsyncioTestCase):
     """A store over a disk that takes long to sync, or does not."""
 
