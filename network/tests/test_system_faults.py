@@ -1,8 +1,12 @@
 """What a service does where the system fails it: a sync that failed before a start, no thread, or no descriptor."""
 import asyncio
 import contextlib
+import io
+import os
 import pathlib
+import resource
 import shutil
+import socket
 import sqlite3
 import tempfile
 import unittest
@@ -10,6 +14,7 @@ from unittest import mock
 
 import harness  # noqa: F401  # which says where walrus is
 from walrus.frames import METADATA
+from walrus.network import notify
 from walrus.network.files import Files
 from walrus.network.store import Store
 
@@ -26,6 +31,29 @@ class DiskCase(unittest.IsolatedAsyncioTestCase):
         self.addCleanup(self.store.close)
         self.store.begin(0, 0)
         self.store.put(1, 0, NAME, METADATA, b"metadata", None)
+
+
+class Manager(unittest.IsolatedAsyncioTestCase):
+    async def test_who_has_no_descriptor_left_is_heard_to_live(self) -> None:
+        """Else the watchdog ends a service that would go on once others are free."""
+        folder = self.enterContext(tempfile.TemporaryDirectory())
+        manager = self.enterContext(socket.socket(socket.AF_UNIX, socket.SOCK_DGRAM))
+        manager.bind(f"{folder}/notify")
+        manager.settimeout(5)
+        told = {"NOTIFY_SOCKET": f"{folder}/notify", "WATCHDOG_USEC": "300000"}
+        self.enterContext(mock.patch.dict(os.environ, told))
+        self.enterContext(contextlib.redirect_stdout(io.StringIO()))
+        notify.ready("here")
+        self.assertEqual([manager.recv(99) for _ in range(2)], [b"READY=1", b"WATCHDOG=1"])
+        soft, hard = resource.getrlimit(resource.RLIMIT_NOFILE)
+        free = os.dup(0)  # below it all are taken
+        os.close(free)
+        resource.setrlimit(resource.RLIMIT_NOFILE, (free, hard))
+        self.addCleanup(resource.setrlimit, resource.RLIMIT_NOFILE, (soft, hard))
+        with self.assertRaises(OSError):
+            os.dup(0)
+        await asyncio.sleep(0.25)
+        self.assertEqual(manager.recv(99), b"WATCHDOG=1")
 
 
 class Start(DiskCase):
