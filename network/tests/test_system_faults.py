@@ -9,11 +9,12 @@ import shutil
 import socket
 import sqlite3
 import tempfile
+import threading
 import unittest
 from unittest import mock
 
 import harness  # noqa: F401  # which says where walrus is
-from walrus.frames import METADATA
+from walrus.frames import METADATA, PRIMARY
 from walrus.network import notify
 from walrus.network.files import Files
 from walrus.network.store import Store
@@ -31,6 +32,26 @@ class DiskCase(unittest.IsolatedAsyncioTestCase):
         self.addCleanup(self.store.close)
         self.store.begin(0, 0)
         self.store.put(1, 0, NAME, METADATA, b"metadata", None)
+
+
+class Threads(DiskCase):
+    async def test_where_no_thread_can_be_had_who_waits_for_the_disk_is_told(self) -> None:
+        """Else the node hears the ledger no more, as it waits for ever for what is on the disk."""
+        [file] = self.store.files.write(NAME, b"sliver")
+        self.store.put(1, 0, NAME, PRIMARY, b"sliver", file)
+        self.assertTrue(await self.store.durable())
+        self.store.expire([NAME])
+        gone = self.store.written()
+        self.assertTrue(self.store.commit())
+        self.store.begin(0, 1)
+        kept = self.store.written()
+        assert gone and kept
+        with mock.patch.object(threading.Thread, "start", side_effect=RuntimeError("can't start new thread")):
+            self.assertTrue(self.store.flush())  # one sync for both
+            async with asyncio.timeout(30):
+                self.assertEqual(await asyncio.gather(gone, kept), [True, True])
+        self.assertEqual(await self.store.settled(1, 0), set())  # in a thread, which removes the file before
+        self.assertFalse(self.store.files.path(file).exists())
 
 
 class Manager(unittest.IsolatedAsyncioTestCase):

@@ -98,7 +98,8 @@ class Staged(Database):
     def abandon(self, files: Iterable[str]) -> None:
         """Has files removed that nothing names."""
         if found := [*files]:
-            asyncio.get_running_loop().run_in_executor(self.pool, self.files.remove, found)
+            with contextlib.suppress(RuntimeError):  # no thread can be had now: the next one does it, or a sweep
+                asyncio.get_running_loop().run_in_executor(self.pool, self.files.remove, found)
 
     def commit(self) -> bool:
         """Commits what is staged; whether the disk takes it so far."""
