@@ -80,6 +80,12 @@ class Pages(unittest.TestCase):
             self.assertRegex(path.read_text(), r"(?m)^StartLimitIntervalSec=0$", path.name)
             self.assertRegex(path.read_text(), r"(?m)^Restart=(always|on-failure)$", path.name)
 
+    def test_a_disk_for_which_linux_waits_costs_no_node(self) -> None:
+        """It gives a command up after 30 s and five retries; the last beat may be a third of the time ago."""
+        unit = (harness.HERE.parent / "units" / "walrus-node@.service").read_text()
+        [seconds] = re.findall(r"(?m)^WatchdogSec=(\d+)$", unit)
+        self.assertGreater(int(seconds) * 2 / 3, 6 * 30)
+
     def test_no_page_ends_processes_by_a_broad_name(self) -> None:
         pages = [*harness.HERE.parent.glob("*.md"), *(harness.HERE.parents[1] / "docs").glob("*.md")]
         self.assertEqual([it.name for it in pages if re.search("pkill|killall", it.read_text())], [])

@@ -35,6 +35,21 @@ class Left(NodeCase):
         with self.free(0.3):
             self.assertEqual(await recovery.settle(node, 0, [large, small]), 0)
 
+    async def test_what_a_disk_could_not_read_for_a_moment_is_taken_back_and_nobody_is_asked(self) -> None:
+        """Else a storage that fails under more than f nodes leaves blobs unreadable whose every byte is there."""
+        assert self.store
+        metadata, primary, _ = await self.put(bytes(range(250)) * (LARGE // 250))
+        name, node = primary[1:33], self.node({0: {0: self.shard}})
+        with mock.patch.object(self.store.files, "read", return_value=b""):
+            self.assertEqual(await self.read(name), [metadata])
+            for seat in self.seats:
+                seat.fails = True
+            self.assertEqual(await recovery.settle(node, 0, [name]), 1)
+        self.assertFalse(self.shard.settled(name))
+        asked = [[*it.asked] for it in self.seats]
+        self.assertEqual(await recovery.settle(node, 0, [name]), 0)
+        self.assertEqual((await self.read(name), [it.asked for it in self.seats]), ([metadata, primary], asked))
+
     async def test_in_a_move_nothing_is_recovered_for_a_committee_that_takes_nothing_more(self) -> None:
         assert self.store
         names, held = [await self.lacks(LARGE) for _ in range(2)], (await self.put(bytes(LARGE)))[1][1:33]

@@ -1,29 +1,12 @@
-"""A shard's database as a node starts: what was committed before, and what another version left."""
-import os
-import pathlib
+"""A shard's database as a node starts, made by a version before."""
 import sqlite3
-import tempfile
 import unittest
-from typing import Any
 from unittest import mock
 
 from harness import lacking
 from shard_case import LARGE, ShardCase
 from walrus.frames import METADATA
 from walrus.network.store import Store
-
-
-class Start(unittest.TestCase):
-    def test_what_was_committed_before_a_kill_is_on_the_disk_before_anything_is_said_of_it(self) -> None:
-        synced = list[str]()
-
-        def sync(file: Any) -> None:
-            synced.append(os.readlink(f"/proc/self/fd/{file if isinstance(file, int) else file.fileno()}"))
-
-        with tempfile.TemporaryDirectory() as folder, mock.patch.object(os, "fsync", sync):
-            path = pathlib.Path(folder).resolve() / "a.db"
-            Store(path).close()
-            self.assertLessEqual({f"{path}-wal", str(path.parent)}, {*synced})
 
 
 OLD = """

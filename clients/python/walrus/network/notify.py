@@ -1,6 +1,7 @@
 """What a service manager is told: that a service is ready, and again and again that it lives."""
 import asyncio
 import contextlib
+import functools
 import os
 import socket
 import threading
@@ -9,13 +10,17 @@ from typing import Iterator
 EACH, MORE = 20.0, 300  # seconds: until more time is asked for again; what is left of a start from then on, at least
 
 
+@functools.cache
+def sender() -> socket.socket:
+    """By which the manager is told: kept, as a service that has no descriptor left goes on, and is to be heard."""
+    return socket.socket(socket.AF_UNIX, socket.SOCK_DGRAM)
+
+
 def notify(text: str) -> None:
     """Tells the service manager that started this process, if there is one."""
     address = os.environ.get("NOTIFY_SOCKET", "")
     if address:
-        with socket.socket(socket.AF_UNIX, socket.SOCK_DGRAM) as manager:
-            manager.connect(address.replace("@", "\0", 1) if address.startswith("@") else address)
-            manager.sendall(text.encode())
+        sender().sendto(text.encode(), address.replace("@", "\0", 1) if address.startswith("@") else address)
 
 
 def alive() -> None:

@@ -138,6 +138,8 @@ async def recover_all(node: "Node", epoch: int, certified: list[Lack], others: l
     node.progress = progress = Progress(epoch, len(work))
 
     async def measure(lack: Lack) -> None:
+        if node.store.wrong(lack.shard.holding, lack.identifier):
+            await lack.shard.check(lack.identifier)  # it is right after all if the disk had failed for a moment
         if lack.shard.wants(lack.identifier) and (metadata := await find_metadata(node, *lack)):
             sizes[lack] = sum(node.port.shape.symbols) * node.port.shape.symbol_of(metadata)
             progress.of_bytes += sizes[lack]

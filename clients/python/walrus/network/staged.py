@@ -44,8 +44,12 @@ class Staged(Database):
         except BlockingIOError:
             words = "end that one first, or name another database"
             raise OSError(f"another process runs over {self.path}: {words}") from None
+        # What the log has may not be on the disk, and behind a sync that failed another one proves nothing: the system
+        # takes its pages for clean. So all of it is written anew, into the database, and synced there.
+        if self.base.execute("PRAGMA wal_checkpoint(TRUNCATE)").fetchone()[0]:
+            words = "end that one, so that SQLite can bring its log into the database"
+            raise OSError(errno.EBUSY, f"another process reads {self.path}: {words}")
         self.log = self.opened.enter_context(open(f"{self.path}-wal", "rb"))  # by which each fault is told once
-        os.fsync(self.log)  # what is found there may have been committed by a process that was killed before it synced
         self.files.sync(self.path.parent)  # which has the log
         self.pool = concurrent.futures.ThreadPoolExecutor(THREADS, "disk")  # asyncio's own looks names up, perhaps long
         self.syncer = threading.Thread(target=self.sync, name="sync", daemon=True)  # which costs less than a pool
@@ -94,7 +98,8 @@ class Staged(Database):
     def abandon(self, files: Iterable[str]) -> None:
         """Has files removed that nothing names."""
         if found := [*files]:
-            asyncio.get_running_loop().run_in_executor(self.pool, self.files.remove, found)
+            with contextlib.suppress(RuntimeError):  # no thread can be had now: the next one does it, or a sweep
+                asyncio.get_running_loop().run_in_executor(self.pool, self.files.remove, found)
 
     def commit(self) -> bool:
         """Commits what is staged; whether the disk takes it so far."""
@@ -132,7 +137,7 @@ class Staged(Database):
                 if not fault:
                     os.fdatasync(self.log)
             except OSError as it:
-                words = f"the log of {self.path} is not synced: {it.strerror}; look at the disk before another start"
+                words = f"the log of {self.path} is not synced: {it.strerror}; look at the disk before it fails again"
                 fault = OSError(it.errno, words)
             loop.call_soon_threadsafe(self.synced, fault)
 

@@ -1,0 +1,110 @@
+"""What a service does where the system fails it: a sync that failed before a start, no thread, or no descriptor."""
+import asyncio
+import contextlib
+import io
+import os
+import pathlib
+import resource
+import shutil
+import socket
+import sqlite3
+import tempfile
+import threading
+import unittest
+from unittest import mock
+
+import harness  # noqa: F401  # which says where walrus is
+from walrus.frames import METADATA, PRIMARY
+from walrus.network import notify
+from walrus.network.files import Files
+from walrus.network.store import Store
+
+NAME = bytes(32)
+
+
+class DiskCase(unittest.IsolatedAsyncioTestCase):
+    """A store that is open, with a part that is not committed."""
+
+    async def asyncSetUp(self) -> None:
+        asyncio.get_running_loop().set_debug(False)
+        self.folder = pathlib.Path(self.enterContext(tempfile.TemporaryDirectory(prefix="walrus-faults-")))
+        self.store = Store(self.folder / "a.db")
+        self.addCleanup(self.store.close)
+        self.store.begin(0, 0)
+        self.store.put(1, 0, NAME, METADATA, b"metadata", None)
+
+
+class Threads(DiskCase):
+    async def test_where_no_thread_can_be_had_who_waits_for_the_disk_is_told(self) -> None:
+        """Else the node hears the ledger no more, as it waits for ever for what is on the disk."""
+        [file] = self.store.files.write(NAME, b"sliver")
+        self.store.put(1, 0, NAME, PRIMARY, b"sliver", file)
+        self.assertTrue(await self.store.durable())
+        self.store.expire([NAME])
+        gone = self.store.written()
+        self.assertTrue(self.store.commit())
+        self.store.begin(0, 1)
+        kept = self.store.written()
+        assert gone and kept
+        with mock.patch.object(threading.Thread, "start", side_effect=RuntimeError("can't start new thread")):
+            self.assertTrue(self.store.flush())  # one sync for both
+            async with asyncio.timeout(30):
+                self.assertEqual(await asyncio.gather(gone, kept), [True, True])
+        self.assertEqual(await self.store.settled(1, 0), set())  # in a thread, which removes the file before
+        self.assertFalse(self.store.files.path(file).exists())
+
+
+class Manager(unittest.IsolatedAsyncioTestCase):
+    async def test_who_has_no_descriptor_left_is_heard_to_live(self) -> None:
+        """Else the watchdog ends a service that would go on once others are free."""
+        folder = self.enterContext(tempfile.TemporaryDirectory())
+        manager = self.enterContext(socket.socket(socket.AF_UNIX, socket.SOCK_DGRAM))
+        manager.bind(f"{folder}/notify")
+        manager.settimeout(5)
+        told = {"NOTIFY_SOCKET": f"{folder}/notify", "WATCHDOG_USEC": "300000"}
+        self.enterContext(mock.patch.dict(os.environ, told))
+        self.enterContext(contextlib.redirect_stdout(io.StringIO()))
+        notify.ready("here")
+        self.assertEqual([manager.recv(99) for _ in range(2)], [b"READY=1", b"WATCHDOG=1"])
+        soft, hard = resource.getrlimit(resource.RLIMIT_NOFILE)
+        free = os.dup(0)  # below it all are taken
+        os.close(free)
+        resource.setrlimit(resource.RLIMIT_NOFILE, (free, hard))
+        self.addCleanup(resource.setrlimit, resource.RLIMIT_NOFILE, (soft, hard))
+        with self.assertRaises(OSError):
+            os.dup(0)
+        await asyncio.sleep(0.25)
+        self.assertEqual(manager.recv(99), b"WATCHDOG=1")
+
+
+class Start(DiskCase):
+    async def asyncSetUp(self) -> None:
+        await super().asyncSetUp()
+        self.path = self.folder / "b.db"
+        self.assertTrue(self.store.commit())
+        for end in ("", "-wal"):  # as a kill leaves them
+            shutil.copy(f"{self.store.path}{end}", f"{self.path}{end}")
+
+    async def test_what_was_committed_before_a_kill_is_on_the_disk_before_anything_is_said_of_it(self) -> None:
+        """A sync of the log may have failed: another one succeeds then, and its pages are not on the disk."""
+        with mock.patch.object(Files, "sync") as sync:
+            store = Store(self.path)
+        self.addCleanup(store.close)
+        sync.assert_called_with(store.path.parent)
+        self.assertEqual(pathlib.Path(f"{self.path}-wal").stat().st_size, 0)
+        alone = Store(pathlib.Path(shutil.copy(self.path, self.folder / "c.db")))  # as if the log were lost
+        self.addCleanup(alone.close)
+        self.assertEqual(alone.sizes(1, 0, NAME), {METADATA: 8})
+
+    async def test_a_start_fails_whose_log_does_not_come_into_the_database(self) -> None:
+        self.enterContext(mock.patch.object(Store, "seconds", 0.05))
+        with contextlib.closing(sqlite3.connect(self.path, isolation_level=None)) as reader:
+            reader.execute("BEGIN")
+            reader.execute("SELECT * FROM sides").fetchall()
+            with self.assertRaisesRegex(OSError, "another process reads .*b.db: end that one"):
+                Store(self.path)
+        Store(self.path).close()
+
+
+if __name__ == "__main__":
+    unittest.main()
