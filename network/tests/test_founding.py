@@ -196,6 +196,21 @@ class Changed(FoundingCase):
         self.assertTrue(certificates.is_signed(leaf, after))
         self.assertIn("no certificate ends so soon", await self.says("renew", self.folder))
 
+    async def test_a_renewal_that_was_interrupted_is_completed_by_the_next_one(self) -> None:
+        """It ended between two copies of the authority, of which a full disk left one empty."""
+        await self.found("--days", 20)
+        authority = self.folder / "authority.crt"
+        late, empty = self.folder / "hosts/gamma/authority.crt", self.folder / "users/operator/authority.crt"
+        before = authority.read_bytes()
+        await self.says("renew", self.folder)
+        late.write_bytes(before)
+        empty.write_bytes(b"")
+        said = await self.says("renew", self.folder)
+        self.assertEqual([path for path in (authority, late, empty) if f"{path} is new\n" in said], [late, empty])
+        copies = {path.read_bytes() for path in self.folder.rglob("authority.crt")}
+        self.assertEqual((copies, before in copies), ({authority.read_bytes()}, False))
+        self.assertIn("no certificate ends so soon", await self.says("renew", self.folder))
+
     async def test_a_certificate_is_renewed_by_name_with_all_its_names(self) -> None:
         await self.found()
         path = self.folder / "hosts" / "alpha" / "recorder.crt"

@@ -15,6 +15,7 @@ from .entries import Chain
 
 FIRST, LAST, HEAD = "/walrus/000000000001", "/walrus/999999999999", "/walrus/head"
 MARK, PIECES = "/walrus/checkpoint", "/walrus/checkpoint/"
+DEFRAGMENTING, TURN = "/walrus/defragmenting", 600  # whose turn it is, and for how many seconds at most
 PAGE, SILENCE, LONGEST_LINE = 16, 60.0, 2**20  # batches that are read at once; seconds; bytes
 WIDTHS = 64, 4_096, 262_144  # places among which the key of a batch is looked for: etcd would sort all there are
 COMPACTED, DROPPED = 5_000, 500  # revisions between two compactions; keys that are dropped at once
@@ -120,12 +121,15 @@ class Etcd:
         span = {"key": coded(first), **({"range_end": coded(last)} if last else {}), **words}
         return list((await self.call("kv/range", span)).get("kvs", []))
 
-    async def replace(self, key: str, old: str, puts: dict[str, str], *others: str) -> tuple[str, list[dict[str, Any]]]:
+    async def replace(
+        self, key: str, old: str, puts: dict[str, str], *others: str, lease: str = "0"
+    ) -> tuple[str, list[dict[str, Any]]]:
         """Puts values where a key has an old one, or none if that is empty; what it has then, and where it had another
-        one, some pairs from other keys on."""
+        one, some pairs from other keys on. With a lease, what is put goes when that ends."""
         compare = {"target": "VALUE", "value": coded(old)} if old else {"target": "CREATE", "create_revision": "0"}
         words: dict[str, Any] = {"compare": [{"key": coded(key), "result": "EQUAL", **compare}]}
-        words["success"] = [{"request_put": {"key": coded(it), "value": coded(puts[it])}} for it in puts]
+        pairs = [{"key": coded(it), "value": coded(puts[it]), "lease": lease} for it in puts]
+        words["success"] = [{"request_put": it} for it in pairs]
         spans = [{"key": coded(it), "range_end": coded(LAST), "limit": PAGE} for it in others]
         words["failure"] = [{"request_range": it} for it in ({"key": coded(key)}, *spans)]
         answer = await self.call("kv/txn", words)
@@ -201,8 +205,13 @@ class Etcd:
         return int(told.get("dbSize", 0)), int(told.get("dbSizeInUse", 0))
 
     async def defragment(self) -> None:
-        """Has that member give back what is not in use. It answers nobody else meanwhile."""
-        await self.call("maintenance/defragment", {}, 60)
+        """Has that member give back what is not in use, unless it is another one's turn: it answers nobody else
+        meanwhile. If it does not say in time that it has done so, it may still be at it, and keeps its turn."""
+        lease = str((await self.call("lease/grant", {"TTL": str(TURN)}))["ID"])
+        holder, _ = await self.replace(DEFRAGMENTING, "", {DEFRAGMENTING: lease}, lease=lease)
+        if holder == lease:
+            await self.call("maintenance/defragment", {}, 60)
+        await self.call("lease/revoke", {"ID": lease})
 
     async def watch(self, hear: Callable[[str], None]) -> None:
         """Tells what stands at the head soon after it is another one: a hint, as what is missed is asked for anyway."""

@@ -151,20 +151,23 @@ class Founding:
         raise Unfounded(f"{name} is no node, gateway or user of {self.folder}")
 
     def renew(self, named: Sequence[str], within: float, days: float) -> list[pathlib.Path]:
-        """Makes certificates anew: those named, or those that end within so many days; the paths that changed."""
+        """Makes certificates anew: those named, or those that end within so many days; the paths that changed. A copy
+        of an authority that is not the one here is replaced in any case: a run before may have been interrupted."""
         changed = []
         for name in (AUTHORITY, ETCD_AUTHORITY):
             path = self.folder / f"{name}.crt"
             if name in named or not named and certificates.days_left(certificates.read(path)) < within:
                 certificates.make_authority(path.with_suffix(""), certificates.AUTHORITY_DAYS)
-                copies = [*self.folder.glob(f"hosts/*/{name}.crt"), *self.folder.glob(f"users/*/{name}.crt")]
-                for copy in copies:
-                    shutil.copyfile(path, copy)
-                changed += [path, *copies]
+                changed.append(path)
+            for copy in [*self.folder.glob(f"hosts/*/{name}.crt"), *self.folder.glob(f"users/*/{name}.crt")]:
+                if copy.read_bytes() != path.read_bytes():
+                    with written_whole(str(copy)) as out:
+                        out.write(path.read_bytes())
+                    changed.append(copy)
         for path in sorted([*self.folder.glob("hosts/*/*.crt"), *self.folder.glob("users/*/*.crt")]):
-            old = certificates.read(path)
             if path.stem in (AUTHORITY, ETCD_AUTHORITY):
                 continue
+            old = certificates.read(path)
             if path.stem in named or not named and certificates.days_left(old) < within:
                 by = ETCD_AUTHORITY if path.stem == "etcd" else AUTHORITY
                 known, name = certificates.names_of(old), certificates.common_name(old)

@@ -25,6 +25,7 @@ class Keeper:
     def __init__(self, recorder: Recorder, patience: float):
         self.recorder, self.etcd, self.patience = recorder, recorder.etcd, patience
         self.said, self.dropped = "", 0  # the place up to which nothing is known here any more
+        self.seen = dict[int, float]()  # when the checkpoint of a place was first seen, by the monotonic clock
 
     async def run(self) -> None:
         while True:
@@ -58,8 +59,10 @@ class Keeper:
 
     def is_over(self, mark: Mark) -> bool:
         """Whether all nodes of both committees have told that they are past a checkpoint, which a recorder knows that
-        has read so far, or it was too long."""
-        ledger, late = self.recorder.ledger, time.time() > mark.time + self.patience
+        has read so far, or it was too long: also by a clock of its own, as that of who has written it may have been
+        ahead."""
+        ledger, seen = self.recorder.ledger, self.seen.setdefault(mark.place, time.monotonic())
+        late = time.time() > mark.time + self.patience or time.monotonic() > seen + self.patience
         has_read = self.recorder.chain.place >= mark.place
         return late or has_read and all(ledger.past.get(it, 0) >= mark.epoch for it in ledger.nodes)
 

@@ -55,7 +55,7 @@ def add_words(add: Add) -> None:
     add("remove", "forget nodes, gateways and users, and their keys", "folder", "names+")
 
     more: dict[str, Any]
-    quiet = {"seconds": (60.0, "how long to wait for a node that tells nothing")}
+    quiet = {"seconds": (60.0, "how long to wait for etcd, and for a node that tells nothing")}
     add("restore", "make a ledger whole that was restored from a snapshot", "settings", **quiet)
     add("check", "say what is wrong with files of settings", "settings+")
     more = {"metrics": ("", "PORT of this machine alone, or HOST:PORT, where Prometheus reads its numbers")}

@@ -182,9 +182,10 @@ class State(Database):
         self.settle()
         self.entering, fault, base, fresh, chain = True, None, self.base, [*self.fresh], self.chain
         base.execute("ROLLBACK")  # of nothing, or of what the disk does not take
-        reader = sqlite3.connect(self.name, isolation_level=None) if self.name and not self.tail else None
+        reader: Optional[sqlite3.Connection] = None
         try:
-            if reader:
+            if self.name and not self.tail:
+                reader = sqlite3.connect(self.name, isolation_level=None)
                 reader.executescript("PRAGMA query_only = ON; BEGIN; SELECT * FROM told")
                 self.blobs.base = reader
                 self.fall_back()
