@@ -1,16 +1,20 @@
 """What one name may leave in the ledger, at all who follow it, is bounded, whatever it says and keeps to itself."""
 import asyncio
 import random
+import types
 import unittest
 import zlib
-from typing import Mapping
+from typing import Any, Mapping
 from unittest import mock
 
 from ledger_case import FOUNDED, FOUR, Chain, LedgerCase, Memory, registration
-from walrus.network import blobs, recorder, shard
+from walrus import client
+from walrus.frames import answer
+from walrus.network import blobs, intake, recorder, shard
 from walrus.network.entries import ACK, ATTEST, OPERATOR, Entry, entry_key
 from walrus.network.keeping import Keeper
 from walrus.network.ledger import ADDRESSES, Ledger
+from walrus.network.node import Node
 from walrus.network.state import State
 
 NODES = FOUR.split(",")
@@ -153,6 +157,29 @@ class Votes(unittest.TestCase):
             lean.close()
             whole.close()
         self.assertGreater(fewer, 20)
+
+
+class Words(unittest.IsolatedAsyncioTestCase):
+    async def test_what_an_earlier_committee_certified_is_acknowledged_by_no_node_again(self) -> None:
+        """Anybody may ask for that, in each epoch and for each blob."""
+        asyncio.get_running_loop().set_debug(False)
+        ledger, name = Ledger(), (1).to_bytes(32, "big")
+        entered(ledger, FOUNDED, registration("x", 1, 9), *(f"{it}/ack/0/{name.hex()}" for it in NODES[:3]))
+        node: Any = types.SimpleNamespace(name=NODES[3], ledger=ledger, until=mock.AsyncMock(), port=mock.Mock())
+        node.store = mock.Mock(losses=0, durable=mock.AsyncMock(return_value=True))
+        node.recorders, taken = mock.Mock(post=mock.AsyncMock()), intake.Intake(node)
+        said = mock.AsyncMock(return_value=[answer(14, 3)])  # by the judge
+        self.enterContext(mock.patch.object(intake.Whole, "read", return_value=mock.Mock(identifier=name)))
+        for epoch in (0, 1):
+            own = mock.Mock(epoch=epoch, answer=said, put_whole=said)
+            node.sides = {epoch: {3: own}}
+            words = await Node.vouch(node, ACK, own, client.write_frame(client.Ack(name)))
+            self.assertEqual(await taken.store(3, memoryview(b"")), [answer(client.DONE)])
+            await asyncio.sleep(0.1)
+            self.assertEqual((node.recorders.post.await_count, node.recorders.leave.call_count), (1, 1))
+            entered(ledger, *turn(1))
+        self.assertEqual(words, [answer(14, 3)])
+        await taken.close()
 
 
 if __name__ == "__main__":
