@@ -16,6 +16,7 @@ from walrus.network.keeping import Keeper
 from walrus.network.ledger import ADDRESSES, Ledger
 from walrus.network.node import Node
 from walrus.network.state import State
+from walrus.network.whole import Whole
 
 NODES = FOUR.split(",")
 NAMES = [bytes([number]) * 32 for number in range(3)]
@@ -169,7 +170,7 @@ class Words(unittest.IsolatedAsyncioTestCase):
         node.store = mock.Mock(losses=0, durable=mock.AsyncMock(return_value=True))
         node.recorders, taken = mock.Mock(post=mock.AsyncMock()), intake.Intake(node)
         said = mock.AsyncMock(return_value=[answer(14, 3)])  # by the judge
-        self.enterContext(mock.patch.object(intake.Whole, "read", return_value=mock.Mock(identifier=name)))
+        self.enterContext(mock.patch.object(Whole, "read", return_value=mock.Mock(identifier=name)))
         for epoch in (0, 1):
             own = mock.Mock(epoch=epoch, answer=said, put_whole=said)
             node.sides = {epoch: {3: own}}
