@@ -6,7 +6,7 @@ import unittest
 from typing import Any
 from unittest import mock
 
-from test_http_uploads import UploadCase
+from upload_case import UploadCase
 from walrus.network import resuming, unfinished
 from walrus.network.transfers import TRIES, Failure
 
