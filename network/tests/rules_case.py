@@ -54,7 +54,7 @@ class RulesCase(unittest.TestCase):
     def same(self, one: Ledger, other: Ledger) -> None:
         """Both say the same of all that there is."""
         names = ["faults", "epoch", "revision", "now", "next", "ready", "posted", "shares", "expelled", "addresses"]
-        names += ["past", "concentrated", "calendar"]
+        names += ["past", "concentrated", "calendar", "addressed"]
         self.assertEqual([getattr(one, it) for it in names], [getattr(other, it) for it in names])
         for it in (dict, len, list, lambda kept: [*reversed(kept)], lambda kept: kept.posters()):
             self.assertEqual(it(one.blobs), it(other.blobs))

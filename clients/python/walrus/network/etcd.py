@@ -5,8 +5,9 @@ import contextlib
 import dataclasses
 import functools
 import json
+import re
 import ssl
-from typing import Any, Callable, Optional
+from typing import Any, Callable, Coroutine, Optional, TypeVar
 
 import aiohttp
 
@@ -19,6 +20,8 @@ DEFRAGMENTING, TURN = "/walrus/defragmenting", 600  # whose turn it is, and for 
 PAGE, SILENCE, LONGEST_LINE = 16, 60.0, 2**20  # batches that are read at once; seconds; bytes
 WIDTHS = 64, 4_096, 262_144  # places among which the key of a batch is looked for: etcd would sort all there are
 COMPACTED, DROPPED = 5_000, 500  # revisions between two compactions; keys that are dropped at once
+QUOTA = re.compile(r"^etcd_server_quota_backend_bytes (\S+)$", re.MULTILINE)
+T = TypeVar("T")
 
 
 class Failed(ConnectionError):
@@ -101,7 +104,7 @@ class Etcd:
         self.url, self.aclose, self.revision, self.compacted = url, self.session.close, 0, 0
 
     async def call(self, path: str, body: dict[str, Any], seconds: float = 10) -> dict[str, Any]:
-        """One call, in a task of its own, as deadlines of aiohttp 3.8 disturb those of asyncio around them."""
+        """One call of etcd's JSON gateway."""
 
         async def ask() -> dict[str, Any]:
             limit = aiohttp.ClientTimeout(total=seconds)
@@ -111,8 +114,12 @@ class Etcd:
                 raise OSError(answer.get("error", answer))
             return dict(answer)
 
+        return await self.asked(ask())
+
+    async def asked(self, work: Coroutine[Any, Any, T]) -> T:
+        """What etcd answers, in a task of its own, as deadlines of aiohttp 3.8 disturb those of asyncio around them."""
         try:
-            return await asyncio.create_task(ask())
+            return await asyncio.create_task(work)
         except (aiohttp.ClientError, OSError, TimeoutError, ValueError) as fault:
             raise Failed(f"etcd at {self.url} does not answer: {fault or 'it is too slow'}") from fault
 
@@ -198,6 +205,20 @@ class Etcd:
             self.compacted = self.revision
             with contextlib.suppress(Failed):  # another recorder has done so
                 await self.call("kv/compaction", {"revision": str(self.revision)})
+
+    async def quota(self) -> float:
+        """The bytes of its file above which the member beside this appends nothing, one of the numbers that it tells to
+        Prometheus."""
+
+        async def ask() -> float:
+            limit = aiohttp.ClientTimeout(total=10)
+            async with self.session.get(f"{self.url}/metrics", timeout=limit) as said:
+                found = QUOTA.search(await said.text())
+            if not found:
+                raise OSError("/metrics does not tell its quota")
+            return float(found[1])
+
+        return await self.asked(ask())
 
     async def sizes(self) -> tuple[int, int]:
         """The bytes of the file of the member beside this, and those of them that are in use."""

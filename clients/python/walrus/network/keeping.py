@@ -16,6 +16,7 @@ from .recorder import Recorder
 
 PAUSE, IDLE = 5.0, 30.0  # seconds between two looks; without an entry, until etcd gives back what it has free
 TRIES = 10  # to put a piece of a checkpoint
+FULL = 0.75  # of etcd's quota: the rest has room for what comes while entries are dropped, and for the next checkpoint
 SLACK = 67_108_864  # bytes that etcd may have free
 
 
@@ -44,7 +45,7 @@ class Keeper:
         recorder, mark = self.recorder, await self.etcd.mark()
         now = time.monotonic()
         if mark and not mark.dropped:
-            if self.is_over(mark):
+            if self.is_over(mark) or await self.is_full():
                 await self.etcd.put_mark(mark._replace(dropped=True), mark)
         elif mark and mark.place > self.dropped:
             await self.etcd.drop(mark)  # each recorder does so, as who has put the mark may have ended behind it
@@ -64,7 +65,14 @@ class Keeper:
         ledger, seen = self.recorder.ledger, self.seen.setdefault(mark.place, time.monotonic())
         late = time.time() > mark.time + self.patience or time.monotonic() > seen + self.patience
         has_read = self.recorder.chain.place >= mark.place
-        return late or has_read and all(ledger.past.get(it, 0) >= mark.epoch for it in ledger.nodes)
+        waited = [it for it in ledger.nodes if it not in ledger.expelled]  # nobody hears who is expelled
+        return late or has_read and all(ledger.past.get(it, 0) >= mark.epoch for it in waited)
+
+    async def is_full(self) -> bool:
+        """Whether etcd has so much that no node is waited for any longer: above its quota nothing could be appended,
+        and no checkpoint marked as dropped."""
+        _, used = await self.etcd.sizes()
+        return used > FULL * await self.etcd.quota()
 
     async def write(self, before: Optional[Mark]) -> None:
         """Writes a checkpoint of what the ledger is now; the mark last, so that nobody finds half of it, and only where
