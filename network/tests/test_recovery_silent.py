@@ -15,12 +15,17 @@ from walrus.network import recovery
 from walrus.network.judge import Room
 from walrus.network.peers import Seat
 
-FAULTS, SECONDS = 2, 1.0  # shards that may lie, and seconds in which each must answer
+FAULTS, TURNS = 2, 5_000  # shards that may lie, and turns of the loop in which each must answer, on a slow machine too
 SHAPE = client.Shape(FAULTS)
 METADATA = bytes([client.METADATA]) + struct.pack(">HQ", FAULTS, 30) + bytes(64 * SHAPE.shards)
 NAMES = [it.to_bytes(32, "big") for it in range(96)]
 OWNERS = ["c", "d", "a", "a", "b", "e", "e"]  # who has each shard: c and d lack all, e says nothing
 FULL, SILENT = (2, 3, 4), (5, 6)
+
+
+async def turns(count: int) -> None:
+    for _ in range(count):
+        await asyncio.sleep(0)
 
 
 def sliver(identifier: bytes, axis: int, index: int) -> bytes:
@@ -82,14 +87,14 @@ class Other(Seat):
     """A shard of another node as a node sees it."""
 
     def __init__(self, case: "Silent", number: int):
-        super().__init__(mock.Mock(seconds=SECONDS), OWNERS[number], number, FAULTS)
+        super().__init__(mock.Mock(seconds=60), OWNERS[number], number, FAULTS)
         self.case, self.late = case, number in SILENT  # which it has been to a blob before
 
     async def exchange(self, requests: Sequence[Any]) -> list[client.Reply]:
         if self.number in SILENT:
             self.case.waits.set()
             self.case.waited += 1
-            await asyncio.sleep(SECONDS)
+            await turns(TURNS)
             if not self.case.answers:
                 raise ConnectionError("no whole reply")
         replies = list[client.Reply]()
@@ -161,7 +166,7 @@ class Silent(unittest.IsolatedAsyncioTestCase):
     async def test_nodes_that_recover_the_same_not_in_step_do_not_wait_for_it_blob_by_blob(self) -> None:
         async def later() -> None:
             await self.waits.wait()
-            await asyncio.sleep(SECONDS / 2)
+            await turns(TURNS // 2)
             await self.settle(self.node(1))
 
         async with asyncio.timeout(60):
