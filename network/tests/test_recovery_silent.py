@@ -151,6 +151,14 @@ class Silent(unittest.IsolatedAsyncioTestCase):
         self.assertEqual(await recovery.settle(node, 0, NAMES), 0)
         self.assertEqual((node.progress.of, node.progress.blobs, self.waited), (len(NAMES), len(NAMES), waited))
 
+    async def test_who_has_not_replied_in_time_is_late_from_then_on(self) -> None:
+        node = self.node(0)
+        seats = node.peers.seats(OWNERS, FAULTS)
+        for seat in seats:
+            seat.late = False
+        self.assertEqual(await recovery.settle(node, 0, NAMES[:1]), 1)
+        self.assertEqual([seat.number for seat in seats if seat.late], [*SILENT])
+
     async def test_what_it_alone_has_is_heard_of_it_once_all_others_had_their_turn(self) -> None:
         node, self.answers = self.node(0), True
         for name in NAMES:

@@ -56,7 +56,11 @@ class Once(client.Shard):
             self.sent = [*self.wanted]
             self.asked = asyncio.create_task(self.seat.ask(*map(Asked.alone, self.sent)))
             self.asked.add_done_callback(lambda it: it.cancelled() or it.exception())  # also where nobody waits
-        replies = await asyncio.shield(self.asked)
+        try:
+            replies = await asyncio.shield(self.asked)
+        except ConnectionError:
+            self.late = True  # perhaps by its deadline, with nobody left whom to ask in its place
+            raise
         self.late = False
         if len(replies) < len(self.sent):
             raise ConnectionError("its reply ended with a clash")
