@@ -70,13 +70,13 @@ pub data MissesColumn (Column : ℕ → List ℕ → Type 0) (f cell_size k j : 
       j
       → MissesColumn Column f cell_size k j
 
--- column 0 tells of too many members, or the columns of the index are there, and are the index of
--- no members
+-- column 0 tells of too many members, or the columns of the index are there, but there are no
+-- members whose index they are
 pub data HasBadIndex (Column : ℕ → List ℕ → Type 0) (f cell_size : ℕ) : Type 0 where
   -- column 0 tells of too many members
   of_many : (bytes : List ℕ) → Column 0 bytes → 2 * f < count_in bytes
       → HasBadIndex Column f cell_size
-  -- the columns are the index of no lengths
+  -- there are no lengths whose index the columns are
   of_none : (bytes : List ℕ) → Column 0 bytes → count_in bytes ≤ 2 * f → (columns : List ℕ)
       → AreColumns Column (column_bytes f cell_size) 0
       (index_columns (column_bytes f cell_size) (count_in bytes)) columns

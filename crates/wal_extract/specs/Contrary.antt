@@ -57,7 +57,8 @@ AreDigestedForOpenings digest f size extended proof left right =
     MeetOnPaths digest proof.index opening.symbol opening.path (region size line proof.index)
     (path_over digest size line proof.index) left right)
 
--- left and right are digested for a sliver of the basis, or for an opening of its proof
+-- left and right are digested for a sliver of the basis, or for an opening of its proof, and for
+-- the same part of the matrix
 abbrev pub AreDigestedForBasis : (List ℕ → List ℕ) → ℕ → ℕ → List ℕ → Basis → List ℕ → List ℕ
     → Type 0
 AreDigestedForBasis digest f size extended (Slivers indices joined) left right =

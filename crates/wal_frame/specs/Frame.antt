@@ -57,7 +57,7 @@ pub record IsAnswerFrame (code first second : ℕ) : Type 0 where
   pub a_fits : first < 2 ^ 32
   pub b_fits : second < 2 ^ 32
 
--- two texts no longer than the longest that is digested
+-- two texts no longer than the longest that is digested for an identifier
 pub record AreTexts (left right : List ℕ) : Type 0 where
   pub left_most : length left ≤ 65
   pub right_most : length right ≤ 65

@@ -100,8 +100,8 @@ pub record Takes {D K : Type 0} {disk_ghosts : _} {keep_ghosts : _} (now : D →
   pub size : length (now new.disk) ≡ length (now old.disk)
   pub only : Agrees ((old.tail, span more) ∷ []) (now old.disk) (now new.disk)
 
--- The disk failed: only bytes that the records take may have changed, the bytes stand for what a
--- crash may leave, and the keep already holds what the changes make.
+-- The disk failed: only bytes of the records and of the gate behind them may have changed, the
+-- bytes stand for what a crash may leave, and the keep already holds what the changes make.
 pub record Stops {D K : Type 0} {disk_ghosts : _}
     {keep_ghosts : _} (now : D → List ℕ) (faults : D → ℕ)
     (contents : K → Contents) (most : K → Option ℕ)

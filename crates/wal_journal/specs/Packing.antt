@@ -86,7 +86,7 @@ pub record Refuses {D K : Type 0} {disk_ghosts : _} {keep_ghosts : _} (now : D �
 
 -- The disk failed during one of the puts: those before it are made, and each crash leaves an image
 -- that goes on after them; the one fits on the disk, the keep had room for it and holds it, and it
--- may be made or not. Only bytes that their records take may have changed.
+-- may be made or not. Only bytes of their records and of the gate behind them may have changed.
 pub record StopsIn {D K : Type 0} {disk_ghosts : _}
     {keep_ghosts : _} (now : D → List ℕ) (faults : D → ℕ)
     (tells : Bool) (clock : D → ℕ) (since : D → ℕ → List ℕ → Type 0)

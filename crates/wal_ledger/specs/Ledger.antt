@@ -170,7 +170,7 @@ signers log id kind epoch = is_signer_among (owners_at log epoch) (own_entries l
 abbrev pub acknowledgers : Log → BlobId → ℕ → (ℕ → Bool)
 acknowledgers log id epoch = signers log id Holds epoch
 
--- how many shards of the committee signed
+-- how many shards of the committee belong to nodes that signed
 abbrev pub signer_count : Log → BlobId → Kind → ℕ → ℕ
 signer_count log id kind epoch = count_below (committee_size log.f) (signers log id kind epoch)
 

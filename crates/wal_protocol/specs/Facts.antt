@@ -59,8 +59,8 @@ pub record Facts (rules : Rules) (world : World) : Type 0 where
       → among world.next.faulty shard ≡ false → MustHold world.log id
       → settled (held world.next shard id) ≡ true
   -- while each committee so far has had at most f faulty shards, so have these, and more than f
-  -- correct shards of the one that serves are settled for each blob that is certified or, while the
-  -- epoch changes, was certified when it began to change
+  -- correct shards of the one that serves are settled for each blob that is certified, if the epoch
+  -- is not changing, or that was certified when it began to change, if it is
   pub few_now : world.few ≡ true → length world.now.faulty ≤ world.log.f
   pub few_next : world.few ≡ true → is_moving world.log ≡ true
       → length world.next.faulty ≤ world.log.f

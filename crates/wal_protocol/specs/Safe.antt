@@ -150,7 +150,7 @@ IsDecided (line.Recover shard axis id recovering.Inconsistent) = Unit {0}
 IsDecided (line.Collision left right) = Unit {0}
 IsDecided _ = ⊥
 
--- or that it is badly encoded by a proof
+-- or that by a proof it is badly encoded
 abbrev pub IsSettling : Line → Type 0
 IsSettling (line.Recover shard axis id recovering.Proof) = Unit {0}
 IsSettling said = IsDecided said

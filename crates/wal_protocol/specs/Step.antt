@@ -213,13 +213,13 @@ Declines world kind shard id =
     × (same_node (owners_of Next world.log) shard other ≡ true)
     × (backs kind (held (side_of (writing_side world) world) other id) ≡ false)
 
--- the claim was made before
+-- the node of the shard may make the claim, and made it before
 abbrev pub SaidBefore : World → Kind → ℕ → BlobId → Type 0
 SaidBefore world kind shard id =
     IsOpen world.log id × MayPost world kind shard id
     × (signers world.log id kind (writing world.log) shard ≡ true)
 
--- the claim is made now, and so many shards then belong to nodes that made it
+-- the node of the shard makes the claim now, and so many shards then belong to nodes that made it
 pub record ClaimStep (old : World) (kind : Kind) (shard : ℕ)
     (id : BlobId) (count : ℕ) (new : World) : Type 0 where
   pub first_time : MayClaim old.log kind shard id

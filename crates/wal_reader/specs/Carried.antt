@@ -66,7 +66,7 @@ CarriesProof id payload proof = read_of payload ≡ Ok (Proof id proof)
 abbrev pub NoProof : List ℕ → List (List ℕ) → Type 0
 NoProof id payloads = NoneIn (CarriesProof id) payloads
 
--- the proof is the first that payloads carry
+-- the proof is the first of this identifier that payloads carry
 abbrev pub IsFirstProof : List ℕ → List (List ℕ) → EncodingProof → Type 0
 IsFirstProof id payloads proof = IsFirst (CarriesProof id) payloads proof
 
@@ -76,11 +76,11 @@ abbrev pub CarriesBadProof : (List ℕ → List ℕ) → List ℕ → BlobMetada
 CarriesBadProof digest id metadata payload proof =
     CarriesProof id payload proof × IsBadProof digest metadata proof
 
--- no payload carries a proof that is bad for the metadata
+-- no payload carries a proof of this identifier that is bad for the metadata
 abbrev pub NoBadProof : (List ℕ → List ℕ) → List ℕ → BlobMetadata → List (List ℕ) → Type 0
 NoBadProof digest id metadata payloads = NoneIn (CarriesBadProof digest id metadata) payloads
 
--- the proof is the first bad one that payloads carry
+-- the proof is the first of this identifier that payloads carry and that is bad for the metadata
 abbrev pub IsFirstBadProof : (List ℕ → List ℕ) → List ℕ → BlobMetadata → List (List ℕ)
     → EncodingProof → Type 0
 IsFirstBadProof digest id metadata payloads proof =
@@ -93,7 +93,7 @@ CarriesHeldSliver digest id metadata axis index payload bytes =
     (read_of payload ≡ Ok (Sliver id axis index bytes))
     × HoldsSliver digest metadata axis index bytes
 
--- no payload carries a sliver that the metadata commits
+-- no payload carries a sliver of this identifier, axis and index that the metadata commits
 abbrev pub NoHeldSliver : (List ℕ → List ℕ) → List ℕ → BlobMetadata → Axis → ℕ → List (List ℕ)
     → Type 0
 NoHeldSliver digest id metadata axis index payloads =

@@ -70,8 +70,8 @@ HasCommittedSliver digest metadata axis index (Sliver bytes) =
 HasCommittedSliver digest metadata axis index (Inconsistent proof) = Unit {0}
 
 -- for the metadata of a matrix: a recovered sliver is the matrix's own, or another one that the
--- metadata commits in its place; and of openings that prove bad encoding, one holds but does not
--- have the matrix's symbol
+-- metadata commits beside it, at the same index; and of openings that prove bad encoding, one holds
+-- but does not have the matrix's symbol
 abbrev pub IsOwnOrFalse : (List ℕ → List ℕ) → BlobMetadata → Axis → ℕ → List ℕ → Recovered → Type 0
 IsOwnOrFalse digest metadata axis index extended (Short count) = Unit {0}
 IsOwnOrFalse digest metadata axis index extended (Sliver bytes) =

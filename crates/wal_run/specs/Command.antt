@@ -122,8 +122,8 @@ pub record Command : Type 1 where
   -- 5: what, if anything, may stand written when memory ran out: by `MayLeave` a prefix of whatever
   -- the result is
   pub Leaves : Content grammar → List ℕ → Type 0
-  -- 7: what it may have been writing when the sink failed before the answer was known: by `MayOwe`
-  -- a prefix of the answer up to a collision
+  -- 7: what it may have been writing when the sink failed before the result was known: by `MayOwe`
+  -- a prefix of the result up to a collision
   pub Owes : Content grammar → List ℕ → Type 0
 
 -- the most bytes of an input that is a blob, and of a schedule

@@ -236,7 +236,8 @@ abbrev pub made_entries : List Turn → ℕ
 made_entries all = sum_by (λ turn. taken_entries turn.payload turn.answered) all
 
 -- a state that is alike at the identifier serves what is left, and answers it exactly as before, if
--- there is room for what it stores and enters, and none of its answers told of want of room
+-- there is room for what was stored and entered when it was first served, and no answer to it told
+-- of want of room then
 abbrev pub ServesWhatIsLeft : (List ℕ → List ℕ) → Type 0
 ServesWhatIsLeft digest =
     (id : BlobId) (keeps : List ℕ → Bool) (room : ℕ) (may_want also : Bool)

@@ -120,8 +120,8 @@ meaning f own payload = read_meaning f own payload (read_of payload)
 abbrev pub answer_text : ℕ → ℕ → ℕ → List ℕ
 answer_text code first second = frame_text (Answer code first second)
 
--- the answer to each word of a registration, which tells the resulting `until`; none is refused for
--- its change
+-- the answer to each word of a registration, which tells the resulting `until`; while the epoch is
+-- not changing, none is refused for a change of the epoch
 abbrev pub register_frame : RegisterWord → Option Frame
 register_frame (registering.Until until) = Some (Answer 0 until 0)
 register_frame registering.RefusedPast = Some (Answer 15 0 0)

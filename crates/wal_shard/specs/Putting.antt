@@ -139,7 +139,7 @@ Stores limit may_want old id part bytes (Full needed free) new =
 Stores limit may_want old id part bytes Memory new = (may_want ≡ true) × (new ≡ old)
 Stores limit may_want old id part bytes _ new = ⊥
 
--- the answer to metadata that is put beside what is held
+-- the answer to metadata that is put when metadata is held
 abbrev pub Compares : (List ℕ → List ℕ) → Option (List ℕ) → BlobMetadata → PutAnswer → Type 0
 Compares digest old metadata Held = old ≡ Some (metadata_text metadata)
 Compares digest old metadata (OtherMetadata clash) =

@@ -10,7 +10,8 @@ abbrev pub HasRoom : Option ℕ → ℕ → Type 0
 HasRoom None needed = Unit {0}
 HasRoom (Some free) needed = needed ≤ free
 
--- what the answer to a put says of the contents before: full exactly if more is needed than is free
+-- what the answer to a put says of the contents before: unless memory ran out, full exactly if more
+-- is needed than is free
 abbrev pub IsPutAnswer : Option ℕ → Bool → Contents → BlobId → List ℕ → Result (Unit {0}) KeepError
     → Type 0
 IsPutAnswer limit may_want contents id bytes (Ok done) =

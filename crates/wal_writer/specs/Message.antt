@@ -31,8 +31,8 @@ pub record IsMessageOf (digest : List ℕ → List ℕ) (f : ℕ) (format : Form
   pub identifier : id.0 ≡ identifier_of digest metadata
   pub frames : message ≡ message_to metadata id.0 is_metadata.0
 
--- a blob that was written: its identifier, its metadata, and the bytes of its extended matrix, row
--- by row
+-- what a writer made of a blob: its identifier, its metadata, and the bytes of its extended matrix,
+-- row by row
 pub record Written : Type 0 where
   pub id : BlobId
   pub metadata : BlobMetadata

@@ -63,7 +63,8 @@ Hears digest bytes old new true =
     → HasHeard digest id new (payloads ++ payload ∷ []))
 Hears digest bytes old new false = (new ≡ old) × IsUnfinished bytes
 
--- once the state is settled, an envelope that is kept is no longer than the longest one of metadata
+-- once the state is settled, an envelope whose head is kept is no longer than the longest one of
+-- metadata
 abbrev pub HasRoom : IntakeState → Type 0
 HasRoom intake = IsSettledState intake.heard → 7 ≤ length intake.kept → size_in intake.kept ≤ 64012
 
