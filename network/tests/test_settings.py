@@ -61,7 +61,7 @@ class Values(SettingsCase):
             ("alpha", "scrub_rate", "0", "scrub_rate must be at least 1, not 0"),
             ("alpha", "heal", "-1.0", "heal must be at least 0, not -1.0"),
             ("alpha", "scrub", "nan", "scrub must be at least 0, not nan"),
-            ("alpha", "reserve", "5", "reserve is a fraction of the disk, below 1, and not 5"),
+            ("alpha", "reserve", "5", "reserve is a fraction of the disk, at most 1, and not 5"),
             ("alpha", "reserve", "-0.5", "reserve must be at least 0"),
             ("alpha", "connections", "0", "connections must be at least 1"),
             ("alpha", "memory", "-1", "memory must be at least 0"),
@@ -86,6 +86,7 @@ class Values(SettingsCase):
     async def test_what_a_setting_leaves_out_or_shuts_off_is_taken(self) -> None:
         for name, values in (
             ("alpha", {"scrub": "0", "heal": "0", "reserve": "0.0", "kept": "0"}),
+            ("alpha", {"reserve": "1.0"}),
             ("gate", {"challenge": "0", "requests": "0", "rate": "0.0", "proxies": '["10.0.0.1", "fd00::1"]'}),
         ):
             self.assertEqual(check(self.change(name, **values))[1:], ([], []))

@@ -67,8 +67,8 @@ def faults_of_values(values: Mapping[str, Any]) -> list[str]:
     for name, value in values.items():
         if type(value) in (int, float) and not value >= LEAST.get(name, 0):
             faults.append(f"{name} must be at least {LEAST.get(name, 0)}, not {value}")
-    if not values.get("reserve", 0) < 1:
-        faults.append(f"reserve is a fraction of the disk, below 1, and not {values['reserve']}")
+    if values.get("reserve", 0) > 1:
+        faults.append(f"reserve is a fraction of the disk, at most 1, and not {values['reserve']}")
     bad = [it for it in values.get("proxies", []) if not is_address(it)]
     return faults + [f"proxies are addresses, such as 10.0.0.1 or fd00::1, and not {it}" for it in bad]
 

@@ -44,9 +44,9 @@ def warnings(path: pathlib.Path, role: str, told: Mapping[str, Any]) -> list[str
     own = [f"/var/lib/{it}" for it in shown["StateDirectory"].split()]
     own += [it.lstrip("+-") for it in shown["ReadWritePaths"].split()]
     for name in WRITTEN:
-        place = pathlib.Path(told.get(name) or "-")
-        if place != pathlib.Path("-") and not any(map(place.is_relative_to, own)):
-            said.append(f"{unit} cannot write {name} to {place}, but only below {' and '.join(own)} ({PAGE})")
+        text = told.get(name, "")
+        if text not in ("", "-") and not any(map(pathlib.Path(text).absolute().is_relative_to, own)):
+            said.append(f"{unit} cannot write {name} to {text}, but only below {' and '.join(own)} ({PAGE})")
     most = shown["MemoryMax"]
     if most.isdigit() and told.get("memory", 0) > int(most):
         said.append(f"{unit} is ended above {most} bytes (MemoryMax), and memory is {told['memory']} ({PAGE})")
