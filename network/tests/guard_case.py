@@ -10,6 +10,8 @@ from walrus.network import reading, tokens
 from walrus.network.chunks import PIECE
 from walrus.network.gateway import Gateway, Options
 
+EVIL = {"Origin": "http://evil.example"}
+
 
 def other_address() -> str:
     """An address of this machine that others reach; nothing where there is none."""
@@ -78,4 +80,4 @@ class GuardCase(LedgerCase):
         return (await self.ask("PUT", f"/v1/blobs?epochs={epochs}", data=data, **words))[0]
 
 
-__all__ = ["GuardCase", "other_address"]
+__all__ = ["EVIL", "GuardCase", "other_address"]

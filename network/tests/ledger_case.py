@@ -171,6 +171,7 @@ class Memory(Etcd):
         self.plan: dict[int, str] = {}
         self.hear = list[Callable[[str], None]]()  # who watches the head
         self.all = list[str]()  # what was ever appended
+        self.used = 0  # bytes, of its quota
 
     async def fails(self, when: str, call: int = 0) -> int:
         """Does what the plan says of a call, the next one if it is not done yet; its number."""
@@ -247,8 +248,11 @@ class Memory(Etcd):
         self.pieces = {key: it for key, it in self.pieces.items() if key[0] >= mark.place}
         await self.fails("behind", call)
 
+    async def quota(self) -> float:
+        return 1_000.0
+
     async def sizes(self) -> tuple[int, int]:
-        return 0, 0
+        return self.used, self.used
 
     async def watch(self, hear: Callable[[str], None]) -> None:
         self.hear.append(hear)

@@ -3,7 +3,7 @@ import pathlib
 import unittest
 
 from browser import PROGRAM, Browser
-from test_http_uploads import UploadCase
+from upload_case import UploadCase
 
 PIECE = 16_777_216
 SENT = "document.getElementById('sending').textContent"

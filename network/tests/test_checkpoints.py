@@ -110,6 +110,25 @@ class Kept(KeptCase):
             await self.say(*turn(number), *(entry_key(it, "past", number) for it in NODES))
             self.assertTrue(await self.dropped(number))
 
+    async def test_who_lacks_what_went_with_an_earlier_checkpoint_is_told_the_one_that_waits_for_nodes(self) -> None:
+        async with self.following(self.user("publisher")) as early:
+            before = early.chain
+            await self.say(*turn(1), *(entry_key(it, "past", 1) for it in NODES))
+            self.assertTrue(await self.dropped(1))
+            await self.say(*turn(2), *(entry_key(it, "past", 2) for it in NODES[:3]))
+            self.assertFalse(await self.dropped(2, 1.0))
+            mark = await self.recorders[0].etcd.mark()
+            self.assertEqual((mark.epoch, mark.dropped), (2, False))
+            for each in self.recorders:  # as behind a start
+                each.recent.clear()
+                each.size = 0
+            away = View(self.user("publisher"))
+            away.state.identity, away.state.chain = early.state.identity, before
+            task = asyncio.create_task(away.follow())
+            self.assertTrue(await away.until(lambda _: away.caught_up, 10))
+            await self.same(early, away)
+            task.cancel()
+
     async def test_etcd_gives_back_what_is_dropped(self) -> None:
         texts = [registration("publisher", number, 2) for number in range(4_000)]
         for first in range(0, 4_000, 50):

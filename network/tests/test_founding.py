@@ -1,57 +1,23 @@
-"""Files of a network's machines: what is founded, added, renewed, removed and checked; dates by the calendar."""
-import asyncio
+"""Files of a network's machines: what is founded, added, renewed and removed."""
 import contextlib
 import datetime
 import fnmatch
-import io
 import json
-import os
 import pathlib
 import re
 import shlex
-import shutil
 import socket
 import ssl
-import tempfile
 import threading
-import time
 import unittest
-from unittest import mock
 
-import harness  # noqa: F401
-from walrus.network import TOP, certificates, commands, configuration, dates, entries, notify, operators
-from walrus.network.checking import check
+from founding_case import THREE, FoundingCase
+from walrus.network import TOP, certificates, entries
 from walrus.network.founding import must_fit, owners_of
 from walrus.network.ledger import Entry, Ledger
 from walrus.network.machine import Place, Unfounded
 from walrus.network.settings import GatewaySettings, Settings
 from walrus.network.transfers import Failure
-
-THREE = ["alpha=alpha:31500*2", "beta=beta:31500", "gamma=gamma:31500"]
-
-
-class FoundingCase(unittest.IsolatedAsyncioTestCase):
-    """A folder in which nothing is founded yet."""
-
-    def setUp(self) -> None:
-        made = tempfile.TemporaryDirectory()
-        self.addCleanup(made.cleanup)
-        self.folder = pathlib.Path(made.name) / "net"
-
-    async def asyncSetUp(self) -> None:
-        asyncio.get_running_loop().set_debug(False)
-
-    async def says(self, *words: object, status: int = 0) -> str:
-        """What a command of walrus-net that needs no ledger says."""
-        out = io.StringIO()
-        with mock.patch("sys.argv", ["walrus-net", *map(str, words)]), contextlib.redirect_stdout(out):
-            parsed = commands.parse()
-            self.assertEqual(await operators.RUNS[parsed.command](parsed), status)
-        return out.getvalue()
-
-    async def found(self, *more: object) -> None:
-        words = ["--faults", 1, "--ledger", "alpha", "beta", "gamma", *THREE, "--concentrated"]
-        await self.says("found", self.folder, *words, "--gateway", "gate=office", "--user", "printer", *more)
 
 
 class Found(FoundingCase):
@@ -140,7 +106,7 @@ class Found(FoundingCase):
             with self.subTest(words=words), self.assertRaisesRegex(Unfounded, "a machine cannot be called recorder"):
                 await self.says("found", self.folder, "--faults", 1, "--concentrated", "--ledger", *words)
             self.assertFalse(self.folder.exists())
-        long = [f"{it * 64}=h{it}:1*100" for it in "abcdefghij"]
+        long = [f"{it * 32}.{it * 31}=h{it}:1*100" for it in "abcdefghij"]
         with self.assertRaisesRegex(Unfounded, "the names of 1000 shards are too long"):
             await self.says("found", self.folder, "--faults", 333, "--ledger", "alpha", *long)
         await self.found()
@@ -230,6 +196,21 @@ class Changed(FoundingCase):
         self.assertTrue(certificates.is_signed(leaf, after))
         self.assertIn("no certificate ends so soon", await self.says("renew", self.folder))
 
+    async def test_a_renewal_that_was_interrupted_is_completed_by_the_next_one(self) -> None:
+        """It ended between two copies of the authority, of which a full disk left one empty."""
+        await self.found("--days", 20)
+        authority = self.folder / "authority.crt"
+        late, empty = self.folder / "hosts/gamma/authority.crt", self.folder / "users/operator/authority.crt"
+        before = authority.read_bytes()
+        await self.says("renew", self.folder)
+        late.write_bytes(before)
+        empty.write_bytes(b"")
+        said = await self.says("renew", self.folder)
+        self.assertEqual([path for path in (authority, late, empty) if f"{path} is new\n" in said], [late, empty])
+        copies = {path.read_bytes() for path in self.folder.rglob("authority.crt")}
+        self.assertEqual((copies, before in copies), ({authority.read_bytes()}, False))
+        self.assertIn("no certificate ends so soon", await self.says("renew", self.folder))
+
     async def test_a_certificate_is_renewed_by_name_with_all_its_names(self) -> None:
         await self.found()
         path = self.folder / "hosts" / "alpha" / "recorder.crt"
@@ -244,102 +225,6 @@ class Changed(FoundingCase):
 
     def faults_of(self, path: pathlib.Path) -> list[str]:
         return certificates.faults_of(path, path.with_suffix(".key"), self.folder / "authority.crt", None)
-
-
-class Check(FoundingCase):
-    async def asyncSetUp(self) -> None:
-        """A node whose files are all where its settings say."""
-        await super().asyncSetUp()
-        await self.found("--prefix", str(self.folder / "root"), "--program", "/bin/true")
-        self.etc = self.folder / "root" / "etc" / "walrus"
-        shutil.copytree(self.folder / "hosts" / "alpha", self.etc)
-        self.path = self.etc / "alpha.toml"
-        self.text = self.path.read_text()
-
-    async def test_what_is_in_order_is_said_to_be(self) -> None:
-        said = await self.says("check", self.path, self.etc / "recorder.toml")
-        lines = [f"{self.path}: the settings of a node", f"{self.etc}/recorder.toml: the settings of a recorder"]
-        self.assertEqual(said, "".join(f"{line}, with nothing wrong\n" for line in lines))
-
-    async def test_what_is_wrong_is_said_in_words(self) -> None:
-        for change, wanted in (
-            (("port = 31500", 'port = "31500"'), 'port must be a whole number, not "31500"'),
-            (("port = 31500", "prot = 31500"), "prot is no setting of a node"),
-            (('name = "alpha"\n', ""), "name is missing"),
-            (('role = "node"', 'role = "nod"'), "it has no role, which is node or recorder or gateway"),
-            (('role = "node"', 'role = "recorder"'), "database is no setting of a recorder"),
-            (('role = "node"', "role = node"), "cannot be read: Invalid value (at line 1"),
-            (('name = "alpha"', 'name = "beta"'), "has the name alpha, not beta"),
-            (("alpha.key", "etcd.key"), "etcd.key is not the key of"),
-            (("authority.crt", "etcd-authority.crt"), "was not signed by"),
-            (("alpha.crt", "none.crt"), "No such file"),
-            (("/bin/true", "/bin/none"), "program: /bin/none is not there"),
-            (('"beta:31416"', '"beta"'), "beta is not HOST:PORT"),
-        ):
-            with self.subTest(wanted=wanted):
-                self.assertIn(change[0], self.text)
-                self.path.write_text(self.text.replace(*change))
-                self.assertIn(wanted, await self.says("check", self.path, status=1))
-
-    async def test_a_certificate_that_ends_is_told_before_and_wrong_behind(self) -> None:
-        for days, faults, soon in ((5.0, 0, 1), (-0.01, 1, 0)):
-            certificates.make(self.etc / "alpha", self.folder / "authority", "alpha", ["alpha"], days)
-            _, wrong, later = check(self.path)
-            self.assertEqual((len(wrong), len(later)), (faults, soon), (wrong, later))
-            self.assertIn("renew it", [*wrong, *later][0])
-
-    async def test_a_service_reads_keys_where_its_manager_puts_them(self) -> None:
-        given = self.folder / "given"
-        given.mkdir()
-        shutil.move(self.etc / "alpha.key", given / "alpha.key")
-        with mock.patch.dict(os.environ, {"CREDENTIALS_DIRECTORY": str(given)}):
-            self.assertEqual(Settings.read(self.path).key, str(given / "alpha.key"))
-            self.assertEqual(Settings.read(self.path).certificate, str(self.etc / "alpha.crt"))
-
-    async def test_an_unknown_setting_starts_nothing(self) -> None:
-        self.path.write_text(self.text + "memroy = 7\n")
-        with self.assertRaisesRegex(configuration.Wrong, "memroy is no setting of a node"):
-            Settings.read(self.path)
-
-
-class Manager(unittest.IsolatedAsyncioTestCase):
-    async def test_a_service_manager_hears_that_a_service_is_ready_and_lives(self) -> None:
-        with tempfile.TemporaryDirectory() as folder, socket.socket(socket.AF_UNIX, socket.SOCK_DGRAM) as manager:
-            manager.bind(f"{folder}/notify")
-            manager.settimeout(5)
-            told = {"NOTIFY_SOCKET": f"{folder}/notify", "WATCHDOG_USEC": "300000"}
-            with mock.patch.dict(os.environ, told), contextlib.redirect_stdout(io.StringIO()):
-                notify.ready("here")
-                self.assertEqual(manager.recv(99), b"READY=1")
-                self.assertEqual(manager.recv(99), b"WATCHDOG=1")
-                manager.setblocking(False)
-                await asyncio.sleep(0.25)
-                self.assertEqual(manager.recv(99), b"WATCHDOG=1")
-
-
-class Dates(unittest.TestCase):
-    def test_epochs_are_counted_by_the_calendar_and_rounded_up(self) -> None:
-        ledger, day = Ledger(), 86_400
-        self.assertIsNone(dates.calendar_of(ledger))
-        with self.assertRaisesRegex(ValueError, "no calendar by which 90d could be counted"):
-            dates.epochs_for({"calendar": None, "epoch": 0, "moving": False}, "90d")
-        ledger.apply(Entry(1, entries.entry_key("operator", "calendar", 2, 1_000_000, 14 * 1_440)))
-        plan = dates.calendar_of(ledger)
-        self.assertEqual(dates.date_of(ledger, 3), "1971-12-10T10:40Z")  # 1,000,000 minutes and 14 days behind 1970
-        for epoch, moving, now, text, wanted in (
-            (2, False, 0, "14d", 1),
-            (2, False, 1, "14d", 2),
-            (2, False, 0, "90d", 7),
-            (2, False, 7 * day, "1m", 1),
-            (2, True, 0, "28d", 1),
-            (5, False, 0, "1w", 1),
-        ):
-            with mock.patch.object(time, "time", lambda now=now: 60_000_000 + now):
-                status = {"calendar": plan, "epoch": epoch, "moving": moving}
-                self.assertEqual(dates.epochs_for(status, text), wanted, (epoch, moving, now, text))
-        for text in ("", "90", "d", "1.5d", "-1d", "0d"):
-            with self.assertRaises(ValueError):
-                dates.seconds_of(text)
 
 
 if __name__ == "__main__":

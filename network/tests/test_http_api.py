@@ -7,7 +7,7 @@ from typing import Any
 
 from folder_case import tar_of
 from harness import HERE
-from test_http_uploads import UploadCase
+from upload_case import UploadCase
 from walrus.network import gateway
 
 try:

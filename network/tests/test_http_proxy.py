@@ -7,6 +7,7 @@ import re
 import shutil
 import ssl
 import unittest
+from typing import Any
 from unittest import mock
 
 import aiohttp
@@ -24,10 +25,12 @@ NGINX, HAPROXY = (shutil.which(it) or shutil.which(it, path="/usr/sbin") for it 
 class Proxied(GuardCase):
     """A gateway behind a server that the page tells of, at an address that others reach."""
 
+    options: dict[str, Any] = {}
+
     async def asyncSetUp(self) -> None:
         await super().asyncSetUp()
         log = self.folder / "access.log"
-        await self.start(proxies=["127.0.0.1"], names=["blobs.example"], log=str(log))
+        await self.start(proxies=["127.0.0.1"], names=["blobs.example"], log=str(log), **self.options)
         certificates.make(self.folder / "blobs.example", self.folder / "authority", "blobs.example", ["blobs.example"])
         both = [(self.folder / f"blobs.example.{it}").read_text() for it in ("crt", "key")]
         (self.folder / "blobs.example.pem").write_text("".join(both))
@@ -88,7 +91,7 @@ class Proxied(GuardCase):
 
 
 @unittest.skipUnless(NGINX and other_address(), "nginx, or an address that others reach, is not here")
-class Nginx(Proxied):
+class BehindNginx(Proxied):
     def line(self) -> list[str]:
         text = self.told("nginx").replace("listen 443 ssl", f"listen {self.place[0]}:{self.place[1]} ssl")
         kinds = "client_body", "proxy", "fastcgi", "uwsgi", "scgi"
@@ -97,6 +100,8 @@ class Nginx(Proxied):
         (self.folder / "nginx.conf").write_text(f"{frame}\nhttp {{ {words}\n{text}}}\n")
         return [str(NGINX), "-p", str(self.folder), "-c", str(self.folder / "nginx.conf")]
 
+
+class Nginx(BehindNginx):
     async def test_strangers_and_customers(self) -> None:
         await self.strangers_and_customers()
 

@@ -8,7 +8,7 @@ from typing import Any, Awaitable
 from unittest import mock
 
 from harness import lacking
-from test_shard import LARGE, ShardCase
+from shard_case import LARGE, ShardCase
 
 from walrus import client
 from walrus.envelopes import parts

@@ -6,7 +6,7 @@ import shutil
 import unittest
 from typing import Iterator
 
-from test_founding import FoundingCase
+from founding_case import FoundingCase
 from walrus.network.machine import Unfounded
 
 

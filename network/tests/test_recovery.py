@@ -7,7 +7,7 @@ from typing import Any
 from unittest import mock
 
 from harness import lacking
-from test_shard import LARGE, NodeCase
+from shard_case import LARGE, NodeCase
 
 import example_tools
 from walrus import client

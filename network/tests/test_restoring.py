@@ -1,6 +1,7 @@
 """etcd is restored from a snapshot older than what the network has heard, and the ledger is made whole again."""
 import asyncio
 import contextlib
+import io
 import os
 import shutil
 import subprocess
@@ -10,6 +11,7 @@ from typing import Any
 from unittest import mock
 
 from ledger_case import FOUNDED, FOUR, LedgerCase, Memory, registration
+from walrus.network import restoring
 from walrus.network.entries import ACK, OPERATOR, Chain, Entry, entry_key
 from walrus.network.etcd import Batch, Failed
 from walrus.network.follower import View
@@ -66,6 +68,23 @@ class Agreed(unittest.IsolatedAsyncioTestCase):
         service.tails = {"a": ["x"], "b": ["y"]}
         self.assertEqual(service.agreed(), ["x"])
         made.state.close()
+
+    async def test_etcd_that_has_just_been_started_is_waited_for_but_not_for_ever(self) -> None:
+        self.enterContext(mock.patch.object(restoring, "POLL", 0.01))
+        said = self.enterContext(contextlib.redirect_stderr(io.StringIO()))
+        memory, told = Memory(), asyncio.Event()
+        service = Restoring(Recorder(memory), mock.Mock())
+        self.addCleanup(service.recorder.state.close)
+        memory.plan = {1: "before", 2: "before"}
+        await service.find_end(60, told)
+        self.assertIn("fail before call 1; it is asked again for up to 60 s\n", said.getvalue())
+        self.assertNotEqual(service.recorder.state.identity, "")
+        memory.plan = dict.fromkeys(range(10_000), "before")
+        with self.assertRaises(Failed):
+            await service.find_end(0.05, told)
+        told.set()
+        with self.assertRaises(Failed):
+            await service.find_end(60, told)
 
 
 @unittest.skipIf(shutil.which("etcdctl") is None, "etcdctl is not here")

@@ -2,11 +2,15 @@
 answers that it cannot go on just now."""
 import asyncio
 import os
+import pathlib
+import resource
+import signal
+import tempfile
 import unittest
 from typing import Any
 from unittest import mock
 
-from test_http_uploads import UploadCase
+from upload_case import UploadCase
 from walrus.network import resuming, unfinished
 from walrus.network.transfers import TRIES, Failure
 
@@ -31,6 +35,27 @@ class PowerLoss(UploadCase):
         self.assertEqual((await self.begin())[0], 429)  # it may be that one has just begun
         self.age(unfinished.UNHEARD + 1, [it.name for it in (self.folder / "tokens.uploads").iterdir()])
         self.assertEqual((await self.begin())[0], 201)
+
+
+class Full(unittest.TestCase):
+    def test_a_disk_that_takes_a_part_of_a_piece_s_name_loses_neither_that_name_nor_the_piece(self) -> None:
+        """The first 4 of its 33 bytes are the last ones of a page of the disk."""
+        folder, count = pathlib.Path(self.enterContext(tempfile.TemporaryDirectory())), 124
+        (folder / "about").write_text("{}")
+        (folder / "names").write_bytes(bytes(33 * count))
+        for number in (count, count + 1):
+            (folder / f"{number}.piece").write_bytes(b"piece")
+        upload, limits = unfinished.Upload(folder), resource.getrlimit(resource.RLIMIT_FSIZE)
+        self.addCleanup(signal.signal, signal.SIGXFSZ, signal.signal(signal.SIGXFSZ, signal.SIG_IGN))
+        self.addCleanup(resource.setrlimit, resource.RLIMIT_FSIZE, limits)
+        resource.setrlimit(resource.RLIMIT_FSIZE, (4_096, limits[1]))
+        with self.assertRaises(OSError):
+            upload.record(b"a" * 32, False)
+        resource.setrlimit(resource.RLIMIT_FSIZE, limits)
+        self.assertTrue((folder / f"{count}.piece").exists())
+        for name in (b"a" * 32, b"b" * 32):
+            upload.record(name, False)
+        self.assertEqual(unfinished.Upload(folder).names[count:], [b"a" * 32, b"b" * 32])
 
 
 class Away(unittest.IsolatedAsyncioTestCase):

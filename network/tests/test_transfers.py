@@ -1,145 +1,20 @@
-"""walrus-net before a gateway that lies, is away, or is slow: what it says is checked, and no file is lost by it."""
+"""walrus-net before a gateway that lies, is away, or is slow: what it says is checked."""
 import asyncio
 import collections
-import contextlib
-import errno
-import fcntl
 import os
 import pathlib
-import random
 import signal
-import tempfile
 import unittest
-from typing import IO
 from unittest import mock
 
 from harness import HERE
-from transfer_case import TransferCase
+from transfer_case import DRAWN, LIE, MARK, PIECE, TransferCase
 from walrus import bundles, client, library
 from walrus.engines import BUILT
-from walrus.network import checked, transfers
+from walrus.network import transfers
 
-DRAWN = random.Random(41)
-PIECE = 16_777_216
-MARK = b"\x00walrus list \x00\x00\x01"
-LIE = b"lie"
 PLACES = [os.environ.get("WALRUS_LIBRARY", ""), *(str(HERE.parents[1] / it) for it in BUILT)]
 LIBRARY = next((it for it in PLACES if os.path.isfile(it)), "")
-
-
-class Partial(unittest.TestCase):
-    """What a command leaves for the next one, and whose it is."""
-
-    def setUp(self) -> None:
-        made = tempfile.TemporaryDirectory(prefix="walrus-partial-")
-        self.addCleanup(made.cleanup)
-        self.folder, self.name = pathlib.Path(made.name), "0A" * 32
-        self.out = self.folder / "out"
-        self.part = self.folder / f"out.{self.name.lower()}.part"
-
-    def left(self) -> list[str]:
-        return sorted(path.name for path in self.folder.iterdir())
-
-    def give_up(self, size: int, fault: BaseException, output: str = "out") -> None:
-        """Writes so much more of a file, and then this goes wrong."""
-        with contextlib.suppress(type(fault)):
-            with checked.written_whole(str(self.folder / output), self.name) as file:
-                file.seek(0, os.SEEK_END)
-                file.write(bytes(size))
-                raise fault
-
-    def test_a_piece_at_least_is_left_unless_the_disk_is_full(self) -> None:
-        interrupted = KeyboardInterrupt()
-        for size, fault, left in (
-            (PIECE - 1, interrupted, 0),
-            (PIECE, interrupted, PIECE),
-            (1, asyncio.CancelledError(), PIECE + 1),
-            (0, OSError(28, "No space left on device"), 0),
-        ):
-            self.give_up(size, fault)
-            self.assertEqual(self.part.stat().st_size if self.part.exists() else 0, left)
-        self.assertEqual(self.left(), [])
-
-    def test_names_may_be_as_long_as_a_disk_takes(self) -> None:
-        for name in ("a" * 245, "\u00fc" * 122):
-            for _ in range(2):
-                self.give_up(PIECE, KeyboardInterrupt(), name)
-            [left] = self.folder.iterdir()
-            self.assertTrue(name.startswith(left.name.partition(".")[0]))
-            self.assertTrue(left.name.endswith(f".{self.name.lower()}.part"))
-            self.assertEqual(left.stat().st_size, 2 * PIECE)
-            left.unlink()
-
-    def test_who_comes_second_begins_anew(self) -> None:
-        self.give_up(PIECE, KeyboardInterrupt())
-        with checked.written_whole(str(self.out), self.name) as first:
-            with checked.written_whole(str(self.out), self.name) as second:
-                self.assertEqual((len(first.read()), second.read()), (PIECE, b""))
-                second.write(b"second")
-            self.assertEqual((self.out.read_bytes(), self.part.stat().st_size), (b"second", PIECE))
-        self.assertEqual((self.out.stat().st_size, self.left()), (PIECE, ["out"]))
-
-    def test_what_another_one_begins_meanwhile_is_its_own(self) -> None:
-        """One begins just as another one has ended, or is about to give up: both end well, whichever is first."""
-        for patched, size in (("replace", PIECE), ("unlink", 1)):
-            call, second = getattr(os, patched), contextlib.ExitStack()
-            begun = list[IO[bytes]]()
-
-            def at_once(*words: str) -> None:
-                if patched == "replace":
-                    call(*words)
-                if not begun:
-                    begun.append(second.enter_context(checked.written_whole(str(self.out), self.name)))
-                if patched == "unlink":
-                    call(*words)
-
-            with mock.patch.object(os, patched, at_once), contextlib.suppress(KeyboardInterrupt):
-                with checked.written_whole(str(self.out), self.name) as first:
-                    first.write(bytes(size))
-                    if patched == "unlink":
-                        raise KeyboardInterrupt()
-            with second:
-                self.assertEqual(begun[0].read(), b"")
-                begun[0].write(b"second")
-            self.assertEqual((self.out.read_bytes(), self.left()), (b"second", ["out"]))
-
-    def test_a_file_of_another_one_does_not_take_the_place(self) -> None:
-        self.out.write_bytes(b"before")
-        with self.assertRaisesRegex(FileNotFoundError, "removed meanwhile"):
-            with checked.written_whole(str(self.out), self.name) as file:
-                file.write(b"whole")
-                self.part.unlink()
-                self.part.write_bytes(b"half")
-        self.assertEqual((self.out.read_bytes(), self.part.read_bytes()), (b"before", b"half"))
-
-    def test_where_a_disk_has_no_locks_nothing_is_left(self) -> None:
-        with mock.patch.object(fcntl, "flock", side_effect=OSError(errno.ENOLCK, "No locks available")):
-            for size in (0, PIECE):
-                if size:
-                    self.part.write_bytes(bytes(size))
-                self.give_up(PIECE, KeyboardInterrupt())
-                self.assertEqual(self.left(), [self.part.name] if size else [])
-            self.assertEqual(self.part.read_bytes(), bytes(PIECE))  # what came before stays
-        self.part.write_bytes(b"")
-        with open(self.part, "r+b") as other:
-            fcntl.flock(other, fcntl.LOCK_EX)
-            self.give_up(PIECE, KeyboardInterrupt())
-        self.assertEqual(self.left(), [self.part.name])
-
-    def test_what_may_be_another_s_is_not_written(self) -> None:
-        other = self.folder / "other"
-        other.write_bytes(b"other")
-        for way in (self.part.symlink_to, self.part.hardlink_to):
-            way(other)
-            with checked.written_whole(str(self.out), self.name) as file:
-                self.assertEqual(file.read(), b"")
-                file.write(b"new")
-            self.assertEqual((self.out.read_bytes(), other.read_bytes()), (b"new", b"other"))
-            self.part.unlink()
-        self.part.mkdir()
-        with checked.written_whole(str(self.out), self.name) as file:
-            file.write(b"newer")
-        self.assertEqual((self.out.read_bytes(), self.left()), (b"newer", ["other", "out", self.part.name]))
 
 
 class Transfers(TransferCase):
@@ -310,88 +185,6 @@ class Transfers(TransferCase):
             _, error = await process.communicate()
             said = f"walrus-net {words[0]}: nobody reads what it writes any more\n"
             self.assertEqual((process.returncode, error.decode()), (1, said))
-
-    async def long_file(self) -> tuple[bytes, str, pathlib.Path]:
-        """A file of several pieces that the gateway has, its identifier, and where what comes of it lies."""
-        pieces = [DRAWN.randbytes(PIECE), DRAWN.randbytes(PIECE), DRAWN.randbytes(999)]
-        blob, names = b"".join(pieces), b"".join([await self.id(piece) for piece in pieces])
-        name = (await self.id(MARK + len(blob).to_bytes(8, "big") + names)).hex()
-        self.files = {name: blob}
-        return blob, name, self.folder / f"out.{name}.part"
-
-    async def test_a_file_goes_on_where_an_interrupt_ended_it(self) -> None:
-        blob, name, part = await self.long_file()
-        self.out.write_bytes(b"before")
-        self.stalls = True
-        process = await self.start("fetch", name, "--output", self.out)
-        async with asyncio.timeout(60):
-            while not part.exists() or part.stat().st_size < PIECE:
-                await asyncio.sleep(0.05)
-        process.send_signal(signal.SIGINT)
-        _, error = await process.communicate()
-        self.assertEqual((process.returncode, error), (130, b"walrus-net fetch: interrupted\n"))
-        self.assertEqual((self.out.read_bytes(), self.left()), (b"before", ["out", part.name]))
-        self.stalls, size = False, part.stat().st_size
-        self.assertTrue(PIECE <= size < len(blob) and part.read_bytes() == blob[:size])
-        short = DRAWN.randbytes(99)
-        self.files |= {(await self.id(short)).hex(): short, name.upper(): blob}
-        await self.run_net("fetch", (await self.id(short)).hex(), "--output", self.out)  # which is another version
-        self.assertEqual((self.out.read_bytes(), self.left()), (short, ["out", part.name]))
-        await self.run_net("fetch", name.upper(), "--output", self.out)
-        self.assertEqual((self.out.read_bytes() == blob, self.left()), (True, ["out"]))
-        self.assertEqual(self.starts, [0, 0, size])
-
-    async def test_a_file_goes_on_after_its_gateway_went(self) -> None:
-        blob, name, part = await self.long_file()
-        self.gone = True
-        _, said = await self.run_net("fetch", name, "--output", self.out, status=1)
-        self.assertIn("is the gateway running", said)
-        self.assertEqual(self.left(), [part.name])
-        self.gone, size = False, part.stat().st_size
-        await self.listen(self.port)
-        await self.run_net("fetch", name, "--output", self.out)
-        self.assertEqual((self.out.read_bytes() == blob, self.left(), self.starts), (True, ["out"], [0, size]))
-
-    async def test_what_came_before_is_checked_before_it_counts(self) -> None:
-        blob, name, part = await self.long_file()
-        at = PIECE // 2
-        for before, starts in (
-            (blob[:at] + LIE + blob[at + 3 : PIECE], [PIECE, 0]),  # noqa: E203
-            (blob, [len(blob)]),  # it ended before that took its place
-            (blob + b"more", [len(blob) + 4, 0]),
-            (b"", [0]),
-        ):
-            part.write_bytes(before)
-            self.starts = []
-            await self.run_net("fetch", name, "--output", self.out)
-            self.assertEqual((self.out.read_bytes() == blob, self.left(), self.starts), (True, ["out"], starts))
-        self.files = {name: blob[:at] + LIE + blob[at + 3 :]}  # noqa: E203
-        part.write_bytes(blob[:at])
-        _, said = await self.run_net("fetch", name, "--output", self.out, status=1)
-        self.assertIn("this gateway lies", said)
-        self.assertEqual((self.out.read_bytes() == blob, self.left()), (True, ["out"]))
-
-    async def test_what_stays_is_told_and_nothing_stays_of_no_use(self) -> None:
-        blob, name, part = await self.long_file()
-        fetch = "fetch", name, "--output", self.out
-        _, said = await self.run_net(*fetch, "--only", "x", status=4)
-        self.assertEqual(self.left(), [], said)
-        self.files = {}
-        part.write_bytes(blob[:PIECE])
-        _, said = await self.run_net(*fetch, status=4)
-        self.assertEqual(
-            (said, self.left()), (f"walrus-net fetch: no such blob; what has come stays in {part}\n", [part.name])
-        )
-        self.missing = 410
-        _, said = await self.run_net(*fetch, status=3)
-        self.assertEqual((said, self.left()), ("walrus-net fetch: no such blob\n", []))
-
-    async def test_a_server_that_hears_no_ranges_gives_the_rest_too(self) -> None:
-        blob, name, part = await self.long_file()
-        part.write_bytes(blob[: PIECE + 7])
-        self.whole = True
-        await self.run_net("fetch", name, "--output", self.out)
-        self.assertEqual((self.out.read_bytes() == blob, self.left(), self.starts), (True, ["out"], [0]))
 
     async def test_it_ends_by_one_sentence_at_an_interrupt_while_it_starts(self) -> None:
         (self.folder / "aiohttp.py").write_text(

@@ -3,6 +3,7 @@ import asyncio
 import contextlib
 import os
 import pathlib
+import random
 import signal
 import tempfile
 import unittest
@@ -15,6 +16,10 @@ from harness import HERE
 from walrus import client
 from walrus.network.local import find_program
 
+DRAWN = random.Random(41)
+PIECE = 16_777_216
+MARK = b"\x00walrus list \x00\x00\x01"
+LIE = b"lie"
 TOLD = """import atexit, os, pathlib, re
 def tell():
     told = re.search(r"VmHWM:\\s+(\\d+) kB", pathlib.Path("/proc/self/status").read_text())

@@ -8,8 +8,8 @@ use Rattle.wal_reader.specs.Carried.{IsFirstHeldSliver, NoHeldSliver, openings_i
 use Rattle.wal_recover.specs.Recovery.{OpeningsComeTo}
 use Rattle.wal_recover.specs.declared.outcome.Recovered.TheVariants.{Sliver}
 
--- these are the bytes of column j: those of the first held secondary sliver of this index, or where
--- there is none those of the sliver that the openings give
+-- these are the bytes of column j: those of the first held secondary sliver of this index, or, if
+-- there is none, those of the sliver that the openings give
 abbrev pub IsColumn : (List ℕ → List ℕ) → List ℕ → BlobMetadata → List (List ℕ) → ℕ → List ℕ
     → Type 0
 IsColumn digest id metadata payloads j bytes =
@@ -32,7 +32,7 @@ pub record AreColumns (Column : ℕ → List ℕ → Type 0)
   pub long : length bytes ≡ count * size
   pub each : (j : ℕ) → j < count → Column (from + j) (region size bytes j)
 
--- j is the first missing one of the columns from `from` on and before `end`
+-- j is the first missing column from `from` on and before `end`
 pub record IsFirstMissing (Column : ℕ → List ℕ → Type 0) (from end j : ℕ) : Type 0 where
   pub after : from ≤ j
   pub before : j < end

@@ -14,7 +14,7 @@ use Rattle.wal_bundle.specs.Columns.{IsColumn, IsOwnColumn}
 use Rattle.wal_bundle.specs.Layout.{IsBundle}
 use Rattle.wal_bundle.specs.Member.{IsMember}
 
--- what an answer says of members is so: the bytes are those of member k, and the number is theirs
+-- what an answer says of members is true: the bytes are those of member k, and the number is theirs
 abbrev pub IsTrueOf : List (List ℕ) → ℕ → MemberAnswer → Type 0
 IsTrueOf members k (Member bytes) = slice_get members k ≡ Some bytes
 IsTrueOf members k (NoMember count) = count ≡ length members
@@ -32,7 +32,7 @@ pub record IsBundleOf (digest : List ℕ → List ℕ) (shape : BlobShape)
   pub bundle : IsBundle shape.f members bytes
   pub identifier : IsIdentifierOf digest shape.format shape.f bytes id
 
--- payloads tell something of member k that is not so of the bundle with this identifier
+-- payloads tell something of member k that is not true of the bundle with this identifier
 pub record ContradictsBundle (digest : List ℕ → List ℕ) (shape : BlobShape)
     (members : List (List ℕ)) (id : List ℕ) (k : ℕ) (payloads : List (List ℕ)) : Type 0 where
   pub bundle : IsBundleOf digest shape members id
@@ -40,7 +40,7 @@ pub record ContradictsBundle (digest : List ℕ → List ℕ) (shape : BlobShape
   pub told : IsMember digest id k payloads answer
   pub denied : IsTrueOf members k answer → ⊥
 
--- payloads tell two different members of one identifier and number
+-- two lists of payloads tell different members for one identifier and number
 pub record AreContraryMembers (digest : List ℕ → List ℕ)
     (id : List ℕ) (k : ℕ) (one other : List (List ℕ)) : Type 0 where
   pub left : List ℕ
@@ -61,8 +61,8 @@ AreDigestedForColumns digest f A B left right =
     (j : ℕ) × (one : List ℕ) × (other : List ℕ) × AgreeBelow j A B × A j one × B j other
     × AreDigestedForSlivers digest f Secondary one other left right
 
--- left and right are digested for the bundle's metadata and that of the payloads, or where these
--- are one for the first column that the payloads show and that is not the bundle's own
+-- left and right are digested for the bundle's metadata and that of the payloads, or, if these are
+-- equal, for the first column that the payloads show and that is not the bundle's own
 abbrev pub AreDigestedForBundle : (List ℕ → List ℕ) → BlobShape → List (List ℕ) → List ℕ
     → List (List ℕ) → List ℕ → List ℕ → Type 0
 AreDigestedForBundle digest shape members id payloads left right =
@@ -74,8 +74,8 @@ AreDigestedForBundle digest shape members id payloads left right =
     × AreDigestedForColumns digest metadata.f (IsColumn digest id metadata payloads)
     (IsOwnColumn shape.f (symbol_size shape.f shape.length) extended) left right)
 
--- left and right are digested for the metadata of two lists of payloads, or where these are one for
--- the first columns of one index that they show and that differ
+-- left and right are digested for the metadata of two lists of payloads, or, if these are equal,
+-- for the first columns of one index that they show and that differ
 abbrev pub AreDigestedForMembers : (List ℕ → List ℕ) → List ℕ → List (List ℕ) → List (List ℕ)
     → List ℕ → List ℕ → Type 0
 AreDigestedForMembers digest id first second left right =
@@ -86,7 +86,7 @@ AreDigestedForMembers digest id first second left right =
     × AreDigestedForColumns digest metadata.f (IsColumn digest id metadata first)
     (IsColumn digest id other second) left right)
 
--- one answer; the texts of two collisions are not compared
+-- the answers are the same; the texts of two collisions are not compared
 abbrev pub SameMemberAnswer : MemberAnswer → MemberAnswer → Type 0
 SameMemberAnswer (Collision one) (Collision other) = Unit {0}
 SameMemberAnswer one other = one ≡ other

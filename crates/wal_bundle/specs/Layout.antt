@@ -1,7 +1,7 @@
 -- How members are laid into the columns of one blob.
 --
--- The index fills columns from column 0 on, and the bytes of each member the columns behind, from a
--- column's start.
+-- The index fills columns from column 0 on, and the bytes of each member fill columns behind it,
+-- from a column's start.
 use Rattle.std.specs.Prelude.{◌≡◌, ℕ, ◌+◌, ◌-◌, ◌*◌, ◌%◌, ◌<◌, ◌≤◌, List, ◌++◌, length, map, take}
 use Rattle.std.specs.Prelude.{replicate, slice_index, Result, Ok, Err}
 use Rattle.std.specs.Int.{w16, w32, div_ceil}
@@ -13,32 +13,32 @@ use Rattle.wal_bundle.specs.declared.answer.BundleError.{BundleError}
 use Rattle.wal_bundle.specs.declared.answer.BundleError.TheVariants.{BadFaults, Memory, TooLong}
 use Rattle.wal_bundle.specs.declared.answer.BundleError.TheVariants.{TooMany}
 
--- the bytes of a column, for symbols of this size
+-- the number of bytes of a column, for symbols of this size
 abbrev pub column_bytes : ℕ → ℕ → ℕ
 column_bytes f symbol_size = row_count f * symbol_size
 
--- the columns of `size` bytes that so many bytes need
+-- the number of columns of `size` bytes that this many bytes need
 unfoldable pub columns_for : ℕ → ℕ → ℕ
 columns_for size bytes = div_ceil bytes size
 
--- the bytes of the index of so many members
+-- the number of bytes of the index of `count` members
 abbrev pub index_bytes : ℕ → ℕ
 index_bytes count = 2 + 6 * count
 
--- the columns of the index of so many members
+-- the number of columns of the index of `count` members
 abbrev pub index_columns : ℕ → ℕ → ℕ
 index_columns size count = columns_for size (index_bytes count)
 
--- the columns of members of these lengths: an empty one takes none
+-- the number of columns of members of these lengths: an empty one takes none
 unfoldable pub member_columns : ℕ → List ℕ → ℕ
 member_columns size lengths = sum_by (columns_for size) lengths
 
--- the column that member k begins with
+-- the column with which member k begins
 unfoldable pub first_column : ℕ → List ℕ → ℕ → ℕ
 first_column size lengths k =
     index_columns size (length lengths) + member_columns size (take k lengths)
 
--- all columns that are used
+-- the number of columns that are used
 unfoldable pub used_columns : ℕ → List ℕ → ℕ
 used_columns size lengths = index_columns size (length lengths) + member_columns size lengths
 
@@ -47,7 +47,7 @@ abbrev pub ColumnsFit : ℕ → List ℕ → ℕ → Type 0
 ColumnsFit f lengths symbol_size =
     used_columns (column_bytes f symbol_size) lengths ≤ column_count f
 
--- the size is the least even number, at least 2, for which they are
+-- the size is the least even number, at least 2, for which the columns fit
 pub record IsBundleSize (f : ℕ) (lengths : List ℕ) (symbol_size : ℕ) : Type 0 where
   pub even : symbol_size % 2 ≡ 0
   pub positive : 2 ≤ symbol_size
@@ -96,7 +96,7 @@ pub record IsBundle (f : ℕ) (members : List (List ℕ)) (bytes : List ℕ) : T
   pub least : IsBundleSize f (lengths_of members) size
   pub text : bytes ≡ bundle_text f size members
 
--- what bundling members for f faults comes to; of these cases one applies, but for want of memory
+-- the result of bundling members for f faults; one of these cases applies, but for want of memory
 abbrev pub Bundles : ℕ → List (List ℕ) → Result (List ℕ) BundleError → Type 0
 Bundles f members (Ok bytes) =
     (1 ≤ f) × (f ≤ 333) × IsBundle f members bytes × (length bytes ≤ most_bytes)

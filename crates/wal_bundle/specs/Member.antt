@@ -14,12 +14,12 @@ use Rattle.wal_bundle.specs.Layout.{IsBundleSize, column_bytes, columns_for, fir
 use Rattle.wal_bundle.specs.Layout.{index_bytes, index_columns, index_text}
 use Rattle.wal_bundle.specs.Columns.{AreColumns, IsColumn, IsFirstMissing, IsMissing}
 
--- the number of members, which column 0 begins with
+-- the number of members, with which column 0 begins
 unfoldable pub count_in : List ℕ → ℕ
 count_in bytes = from_be_bytes w16 (take 2 bytes)
 
 -- columns begin with the index of members of these lengths, at most twice as many as faults, for
--- symbols of the least size with which these have room
+-- symbols of the least size that has room for them
 pub record IsIndex (f cell_size : ℕ) (columns lengths : List ℕ) : Type 0 where
   pub few : length lengths ≤ 2 * f
   pub size : IsBundleSize f lengths cell_size
@@ -58,7 +58,7 @@ pub record ShowsMember (Column : ℕ → List ℕ → Type 0)
 pub data MissesColumn (Column : ℕ → List ℕ → Type 0) (f cell_size k j : ℕ) : Type 0 where
   -- column 0
   of_start : j ≡ 0 → IsMissing Column 0 → MissesColumn Column f cell_size k j
-  -- a further column of the index, which column 0 tells the members' number of
+  -- a further column of the index; column 0 tells the number of members
   of_index : (bytes : List ℕ) → Column 0 bytes → count_in bytes ≤ 2 * f
       → IsFirstMissing Column 1 (index_columns (column_bytes f cell_size) (count_in bytes)) j
       → MissesColumn Column f cell_size k j
@@ -70,20 +70,20 @@ pub data MissesColumn (Column : ℕ → List ℕ → Type 0) (f cell_size k j : 
       j
       → MissesColumn Column f cell_size k j
 
--- column 0 tells of too many members, or the columns of the index are there, and it is that of no
--- members
+-- column 0 tells of too many members, or the columns of the index are there, and are the index of
+-- no members
 pub data HasBadIndex (Column : ℕ → List ℕ → Type 0) (f cell_size : ℕ) : Type 0 where
-  -- it tells of too many
+  -- column 0 tells of too many members
   of_many : (bytes : List ℕ) → Column 0 bytes → 2 * f < count_in bytes
       → HasBadIndex Column f cell_size
-  -- it is that of no lengths
+  -- the columns are the index of no lengths
   of_none : (bytes : List ℕ) → Column 0 bytes → count_in bytes ≤ 2 * f → (columns : List ℕ)
       → AreColumns Column (column_bytes f cell_size) 0
       (index_columns (column_bytes f cell_size) (count_in bytes)) columns
       → ((lengths : List ℕ) → IsIndex f cell_size columns lengths → ⊥)
       → HasBadIndex Column f cell_size
 
--- what the columns that are there tell of member k; of these cases one applies
+-- what the columns that are there tell of member k; one of these cases applies
 abbrev pub Tells : (ℕ → List ℕ → Type 0) → ℕ → ℕ → ℕ → MemberAnswer → Type 0
 Tells Column f cell_size k (Missing j) = MissesColumn Column f cell_size k j
 Tells Column f cell_size k BadIndex = HasBadIndex Column f cell_size
@@ -96,10 +96,10 @@ Tells Column f cell_size k (Member bytes) =
 Tells Column f cell_size k NoMetadata = ⊥
 Tells Column f cell_size k (Collision clash) = ⊥
 
--- what payloads tell of member k of the bundle with this identifier; of these cases one applies
+-- what payloads tell of member k of the bundle with this identifier; one of these cases applies
 abbrev pub IsMember : (List ℕ → List ℕ) → List ℕ → ℕ → List (List ℕ) → MemberAnswer → Type 0
 -- two metadata of the identifier differ, the first one and the first that differs from it, and two
--- texts collide, each digested for its own
+-- texts collide, one digested for each
 IsMember digest id k payloads (Collision clash) =
     (one : BlobMetadata) × (other : BlobMetadata) × AreFirstTwo digest id payloads one other
     × IsCollision digest clash.left clash.right

@@ -20,7 +20,7 @@ draw_of digest metadata beacon shard draw =
 abbrev pub drawn_index : BlobMetadata → ℕ → Draw → ℕ
 drawn_index metadata shard draw = held_index metadata.format metadata.f draw.axis shard
 
--- what belongs to an axis, of what belongs to primary and to secondary slivers
+-- the value for an axis, of one for primary and one for secondary slivers
 abbrev pub among : {A : Type 0} → Axis → A → A → A
 among Primary primary secondary = primary
 among Secondary primary secondary = secondary
@@ -34,15 +34,15 @@ pub record HoldsBoth (digest : List ℕ → List ℕ) (metadata : BlobMetadata)
       (held_index metadata.format metadata.f Secondary shard) secondary
 
 -- the opening shows what was drawn: the symbol at the drawn place of the codeword of the shard's
--- own sliver of the drawn axis, which is one of the crossing sliver of that index, and the siblings
--- of that place
+-- own sliver of the drawn axis, which is also a symbol of the crossing sliver of that index, and
+-- the siblings of that place
 pub record ShowsDrawn (digest : List ℕ → List ℕ) (metadata : BlobMetadata) (shard : ℕ)
     (primary secondary : List ℕ) (draw : Draw) (opening : Opening) : Type 0 where
   pub cross : opening.cross ≡ drawn_index metadata shard draw
   pub opens : IsOpeningOf digest metadata (crossing draw.axis)
       draw.place (among draw.axis primary secondary) opening
 
--- as many openings as draws, of which each shows what its own draw asks for
+-- as many openings as draws, each of which shows what its own draw asks for
 pub record AreAnswers (digest : List ℕ → List ℕ) (metadata : BlobMetadata) (beacon : List ℕ)
     (shard count : ℕ) (primary secondary : List ℕ) (openings : List Opening) : Type 0 where
   pub many : length openings ≡ count
@@ -50,13 +50,13 @@ pub record AreAnswers (digest : List ℕ → List ℕ) (metadata : BlobMetadata)
       → ShowsDrawn digest metadata shard primary secondary
       (draw_of digest metadata beacon shard draw) opening
 
--- the two codewords that a shard opens, and the bytes of their symbols
+-- the two codewords that a shard opens, and the size of their symbols
 pub record OwnWords : Type 0 where
   pub size : ℕ
   pub row : List ℕ
   pub column : List ℕ
 
--- they are those of a primary and of a secondary sliver
+-- the words are the codewords of a primary and of a secondary sliver
 pub record AreWordsOf (metadata : BlobMetadata)
     (primary secondary : List ℕ) (words : OwnWords) : Type 0 where
   pub size : words.size ≡ symbol_size metadata.f metadata.length

@@ -1,4 +1,4 @@
--- Draws: at which symbols of its slivers a shard is asked.
+-- Draws: the symbols of its slivers that a shard is asked for.
 use Rattle.std.specs.Prelude.{ℕ, ◌%◌, List, ◌∷◌, ◌++◌, take, drop, slice_index}
 use Rattle.std.specs.Int.{w16, from_be_bytes}
 use Rattle.wal_shape.specs.Spelling.{number_text}

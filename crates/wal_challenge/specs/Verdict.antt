@@ -1,4 +1,4 @@
--- What claims in answer to draws come to.
+-- The verdict on claims in answer to draws.
 use Rattle.std.specs.Prelude.{◌≡◌, ◌≢◌, ◌⊎◌, ℕ, ◌+◌, ◌<◌, List, [], ◌∷◌, length, Some, slice_get}
 use Rattle.wal_kernel.specs.Region.{region}
 use Rattle.wal_shape.specs.declared.claim.Claim.{Claim}
@@ -39,7 +39,7 @@ pub record IsFirstWrong (digest : List ℕ → List ℕ) (metadata : BlobMetadat
   pub wrong : AnswersDraw digest metadata shard (draw_of digest metadata beacon shard draw) claim
       → ⊥
 
--- what claims in answer to so many draws come to; of these cases one applies
+-- the verdict on claims in answer to `count` draws; one of these cases applies
 abbrev pub AnswersComeTo : (List ℕ → List ℕ) → BlobMetadata → List ℕ → ℕ → ℕ → List Claim
     → AnswerVerdict → Type 0
 -- there are k of them, and k is another number
@@ -52,7 +52,7 @@ AnswersComeTo digest metadata beacon shard count claims (Wrong draw) =
 AnswersComeTo digest metadata beacon shard count claims Accepted =
     (length claims ≡ count) × FirstAnswer digest metadata beacon shard claims count
 
--- the claim that an opening is of the target of this draw
+-- the claim that an opening is one of the target of this draw
 abbrev pub claim_of : (List ℕ → List ℕ) → BlobMetadata → List ℕ → ℕ → ℕ → Opening → Claim
 claim_of digest metadata beacon shard draw shown =
     record {
@@ -61,7 +61,7 @@ claim_of digest metadata beacon shard draw shown =
       opening = shown;
     }
 
--- the claims that openings are of the targets of this draw and of those after it
+-- the claims that openings are of the targets of this draw and of those after it, in order
 abbrev pub claims_from : (List ℕ → List ℕ) → BlobMetadata → List ℕ → ℕ → ℕ → List Opening
     → List Claim
 claims_from digest metadata beacon shard draw [] = []

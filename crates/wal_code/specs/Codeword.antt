@@ -5,7 +5,7 @@ use Rattle.std.specs.Prelude.{AllPairs, bit_xor, ◌==◌, cond}
 use Rattle.wal_gf.specs.Field.{IsWord, times, inverse, xor_below}
 use Rattle.wal_gf.specs.Polynomial.{evaluate}
 
--- no point stands twice
+-- no point occurs twice
 abbrev pub Distinct : List ℕ → Type 0
 Distinct points = AllPairs (λ point other. point ≢ other) points
 
@@ -16,8 +16,7 @@ pub record IsCodeword (k n : ℕ) (symbol_at : ℕ → ℕ) : Type 0 where
   pub words : All IsWord coefficients
   pub values : (i : ℕ) → i < n → symbol_at i ≡ evaluate coefficients i
 
--- out is the codeword of n words that begins with these words, with one coefficient for each of
--- them
+-- out is the codeword of n words that begins with these words, and whose dimension is their number
 pub record IsExtension (words : List ℕ) (n : ℕ) (out : List ℕ) : Type 0 where
   pub size : length out ≡ n
   pub codeword : IsCodeword (length words) n (slice_index out)
@@ -31,7 +30,7 @@ pub record PassesThrough (known values coefficients : List ℕ) : Type 0 where
   pub there : (i : ℕ) → i < length known
       → evaluate coefficients (slice_index known i) ≡ slice_index values i
 
--- (at + other) / (point + other), or 1 where other is point
+-- (at + other) / (point + other), or 1 if other is point
 unfoldable pub factor : ℕ → ℕ → ℕ → ℕ
 factor point at other =
     cond (point == other) 1 (times (bit_xor at other) (inverse (bit_xor point other)))
@@ -54,7 +53,7 @@ Interpolates known at =
     evaluate coefficients at
     ≡ combination known (λ i. evaluate coefficients (slice_index known i)) at
 
--- what a table of coefficients is for: the known points and the wanted ones
+-- the points that a table of coefficients is for: the known ones and the wanted ones
 pub record Places : Type 0 where
   pub known : List ℕ
   pub wanted : List ℕ

@@ -1,4 +1,4 @@
--- How a coefficient is made: a product of differences, and the inverse of another.
+-- How a coefficient is made: a product of differences times the inverse of another such product.
 use Rattle.std.specs.Prelude.{◌≡◌, ℕ, ◌<◌, List, [], ◌∷◌, length, slice_index, slice_index_or}
 use Rattle.std.specs.Prelude.{bit_xor, ◌==◌, cond}
 use Rattle.wal_gf.specs.Field.{times, inverse}
@@ -22,7 +22,7 @@ AreScales known scales =
     element_at scales i
     ≡ inverse (product_of_others known (slice_index known i) (slice_index known i))
 
--- at each place, the coefficient of the point at the wanted one
+-- at each place, the coefficient of the known point there at the wanted point
 abbrev pub AreWeights : List ℕ → ℕ → List Gf → Type 0
 AreWeights known wanted weights =
     (i : ℕ) → i < length known

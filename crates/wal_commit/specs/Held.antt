@@ -1,4 +1,4 @@
--- The slivers and the openings that a metadata commits.
+-- The slivers and the openings that metadata commits.
 use Rattle.std.specs.Prelude.{◌≡◌, ℕ, ◌*◌, ◌<◌, List, length, Some, slice_get}
 use Rattle.wal_shape.specs.declared.axis.Axis.{Axis}
 use Rattle.wal_kernel.specs.Region.{region}
@@ -9,8 +9,8 @@ use Rattle.wal_tree.specs.Tree.{root_over}
 use Rattle.wal_tree.specs.Path.{IsPathTo, path_over}
 use Rattle.wal_matrix.specs.Word.{IsWordOf}
 
--- this is the sliver of the axis and index that the metadata commits: it has its size, and the root
--- over its codeword is the metadata's root of this axis and index
+-- this is the sliver of the axis and index that the metadata commits: it has the size of one, and
+-- the root over its codeword is the metadata's root of this axis and index
 pub record HoldsSliver (digest : List ℕ → List ℕ) (metadata : BlobMetadata)
     (axis : Axis) (index : ℕ) (sliver : List ℕ) : Type 0 where
   pub within : index < shard_count metadata.f

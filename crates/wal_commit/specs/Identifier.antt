@@ -48,23 +48,23 @@ abbrev pub identifier_tag : Format → ℕ
 identifier_tag One = 2
 identifier_tag Two = 3
 
--- what stands before the pairs where a metadata is spelled: the format, f and the length
+-- what stands before the pairs in the spelling of metadata: the format, f and the length
 abbrev pub head_text : Format → ℕ → ℕ → List ℕ
 head_text format f length = format_text format ++ number_text w16 f ++ number_text w64 length
 
--- the text of the identifier of a metadata: what stands before the pairs, and the root over the
--- pairs in their place
+-- the text of the identifier of metadata: what stands before the pairs, and the root over the pairs
+-- in their place
 abbrev pub identifier_text : (List ℕ → List ℕ) → BlobMetadata → List ℕ
 identifier_text digest metadata =
     identifier_tag metadata.format
     ∷ (head_text metadata.format metadata.f metadata.length ++ pair_root digest metadata)
 
--- the identifier of a metadata
+-- the identifier of metadata
 unfoldable pub identifier_of : (List ℕ → List ℕ) → BlobMetadata → List ℕ
 identifier_of digest metadata = digest (identifier_text digest metadata)
 
--- left and right are the texts of the two identifiers, where these differ, and else those
--- that meet in the trees over the pairs
+-- left and right are the texts of the two identifiers, if these texts differ, and else those that
+-- meet in the trees over the pairs
 abbrev pub AreDigestedFor : (List ℕ → List ℕ) → BlobMetadata → BlobMetadata → List ℕ → List ℕ
     → Type 0
 AreDigestedFor digest one other left right =

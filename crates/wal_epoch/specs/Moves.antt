@@ -1,4 +1,4 @@
--- What the moves between the two states answer, and when.
+-- The answers of the moves between the two states, and when each is given.
 use Rattle.std.specs.Prelude.{◌≡◌, ℕ, ◌<◌, ◌≤◌, Bool, true, false, ◌&&◌, nat_le, List, [], Result}
 use Rattle.std.specs.Prelude.{Ok, Err}
 use Rattle.wal_ledger.specs.declared.entry.Body.TheVariants.{Begin, Finish}

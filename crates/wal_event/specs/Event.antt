@@ -11,7 +11,7 @@ use Rattle.wal_event.specs.declared.event.Event.TheVariants.{Read, Recover, Forg
 use Rattle.wal_event.specs.declared.event.Event.TheVariants.{Finish, Certificate, Holders}
 use Rattle.wal_event.specs.declared.event.Schedule.{Schedule}
 
--- a true reply is one of a shard of the n
+-- a true reply is from one of the n shards
 abbrev pub IsReply : ℕ → Reply → Type 0
 IsReply n (reply.True side shard) = shard < n
 IsReply n (reply.Bytes bytes) = Unit
@@ -38,7 +38,7 @@ IsEventWithin n Finish = Unit
 IsEventWithin n (Certificate id) = Unit
 IsEventWithin n (Holders id) = Unit
 
--- the same as tests
+-- the same conditions, as tests
 abbrev pub reply_within : ℕ → Reply → Bool
 reply_within n (reply.True side shard) = nat_lt shard n
 reply_within n (reply.Bytes bytes) = true

@@ -36,12 +36,12 @@ use Rattle.wal_event.specs.declared.line.Line.TheVariants.{Register, Write, Send
 use Rattle.wal_event.specs.declared.line.Line.TheVariants.{Recover, Forget, Begin, Ready, Finish}
 use Rattle.wal_event.specs.declared.line.Line.TheVariants.{Certificate, Holders, Collision}
 
--- bytes in lower-case digits, and a dash where there are none
+-- bytes in lower-case hexadecimal digits, or a dash if there are none
 abbrev pub hex_text : List ℕ → List ℕ
 hex_text [] = codes "-"
 hex_text (byte ∷ bytes) = encode_lower (byte ∷ bytes)
 
--- an identifier in 64 lower-case digits
+-- an identifier in 64 lower-case hexadecimal digits
 abbrev pub id_text : BlobId → List ℕ
 id_text id = encode_lower id.0
 

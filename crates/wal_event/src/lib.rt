@@ -1,4 +1,4 @@
-//! What happens in a network and what comes of it: events, schedules of events, and the lines of a
+//! What happens in a network, and the outcomes: events, schedules of events, and the lines of a
 //! report, as values.
 #![tactic(auto)]
 

@@ -1,8 +1,8 @@
-//! Lines: what comes of each event.
+//! Lines: the outcome of each event.
 
 use wal_shape::{Axis, BlobId, Bytes};
 
-/// What comes of a registration.
+/// The outcome of a registration.
 #[derive(Clone, Copy, Debug, PartialEq, Eq, Drop)]
 pub enum RegisterWord {
     /// The blob is kept until this epoch begins.
@@ -13,14 +13,14 @@ pub enum RegisterWord {
     RefusedMoving,
 }
 
-/// What comes of a write.
+/// The outcome of a write.
 #[derive(Debug, Drop)]
 pub enum WriteWord {
     /// So many of the shards that it was sent to hold it now, and the blob's bytes.
     Stored { count: u32, bytes: Bytes },
 }
 
-/// What comes of bytes that are sent to a shard.
+/// The outcome of bytes that are sent to a shard.
 #[derive(Clone, Copy, Debug, PartialEq, Eq, Drop)]
 pub enum SendWord {
     /// There is no such committee.
@@ -41,7 +41,7 @@ pub enum SendWord {
     Stored,
 }
 
-/// What comes of an acknowledgement.
+/// The outcome of an acknowledgement.
 #[derive(Clone, Copy, Debug, PartialEq, Eq, Drop)]
 pub enum AckWord {
     /// The blob is not live.
@@ -58,7 +58,7 @@ pub enum AckWord {
     Certified(u32),
 }
 
-/// What comes of an attestation that a blob is badly encoded.
+/// The outcome of an attestation that a blob is badly encoded.
 #[derive(Clone, Copy, Debug, PartialEq, Eq, Drop)]
 pub enum AttestWord {
     /// The blob is not live.
@@ -75,7 +75,7 @@ pub enum AttestWord {
     Invalid(u32),
 }
 
-/// What a read comes to.
+/// The outcome of a read.
 #[derive(Debug, Drop)]
 pub enum ReadWord {
     /// The blob's bytes.
@@ -88,7 +88,7 @@ pub enum ReadWord {
     NoMetadata,
 }
 
-/// What the recovery of a sliver comes to.
+/// The outcome of recovering a sliver.
 #[derive(Debug, Drop)]
 pub enum RecoverWord {
     /// There is no such committee.
@@ -109,7 +109,7 @@ pub enum RecoverWord {
     Short { have: u32, need: u32 },
 }
 
-/// What comes of forgetting.
+/// The outcome of forgetting.
 #[derive(Clone, Copy, Debug, PartialEq, Eq, Drop)]
 pub enum ForgetWord {
     /// There is no such committee.
@@ -122,7 +122,7 @@ pub enum ForgetWord {
     Done,
 }
 
-/// What comes of beginning to change the epoch.
+/// The outcome of beginning a change of the epoch.
 #[derive(Clone, Copy, Debug, PartialEq, Eq, Drop)]
 pub enum BeginWord {
     /// It changes to this epoch.
@@ -133,7 +133,7 @@ pub enum BeginWord {
     RefusedLastEpoch,
 }
 
-/// What comes of a shard's readiness.
+/// The outcome of a shard's readiness.
 #[derive(Clone, Copy, Debug, PartialEq, Eq, Drop)]
 pub enum ReadyWord {
     /// The epoch is not changing.
@@ -146,7 +146,7 @@ pub enum ReadyWord {
     Counted(u32),
 }
 
-/// What comes of finishing the change of the epoch.
+/// The outcome of finishing the change of the epoch.
 #[derive(Clone, Copy, Debug, PartialEq, Eq, Drop)]
 pub enum FinishWord {
     /// This epoch has begun.
@@ -157,7 +157,7 @@ pub enum FinishWord {
     RefusedNotMoving,
 }
 
-/// What comes of asking for a certificate.
+/// The outcome of asking for a certificate.
 #[derive(Clone, Copy, Debug, PartialEq, Eq, Drop)]
 pub enum CertificateWord {
     /// The blob is certified by so many shards in this epoch.
@@ -173,7 +173,7 @@ pub enum HoldersWord {
     Count(u32),
 }
 
-/// What comes of one event.
+/// The outcome of one event.
 #[derive(Debug, Drop)]
 pub enum Line {
     /// A blob was to be kept.

@@ -1,4 +1,4 @@
--- Proofs of bad encoding, and what a check of one comes to.
+-- Proofs of bad encoding, and the result of checking one.
 use Rattle.std.specs.Prelude.{◌≡◌, ◌≢◌, ℕ, List, length, take, map, All, Some, slice_get}
 use Rattle.std.specs.List.{flat_map}
 use Rattle.wal_code.specs.Codeword.{Distinct}
@@ -55,7 +55,7 @@ pub record IsBadProof (digest : List ℕ → List ℕ)
   pub line : ShowLine digest metadata proof.axis proof.index proof.openings word
   pub root : HasRoot digest metadata proof.axis proof.index word → ⊥
 
--- it shows one with the metadata's root
+-- a proof shows a codeword with the metadata's root
 pub record IsConsistent (digest : List ℕ → List ℕ)
     (metadata : BlobMetadata) (proof : EncodingProof) : Type 0 where
   pub word : List ℕ
@@ -70,7 +70,7 @@ pub record IsFirstBad (digest : List ℕ → List ℕ) (metadata : BlobMetadata)
   pub there : slice_get proof.openings place ≡ Some opening
   pub bad : HoldsOpening digest metadata proof.axis proof.index opening → ⊥
 
--- what a check comes to; of these cases one applies
+-- the result of a check; one of these cases applies
 abbrev pub Checks : (List ℕ → List ℕ) → BlobMetadata → EncodingProof → ProofVerdict → Type 0
 Checks digest metadata proof WrongCount =
     length proof.openings ≢ sliver_symbols proof.axis metadata.f

@@ -1,4 +1,4 @@
--- What a reader holds for a metadata, and the verdict on it.
+-- What a reader holds for some metadata, and the verdict on it.
 use Rattle.std.specs.Prelude.{◌≡◌, ◌≢◌, ℕ, ◌*◌, ◌<◌, List, length, take, Some, slice_get}
 use Rattle.std.specs.Prelude.{slice_index}
 use Rattle.wal_code.specs.Codeword.{Distinct}
@@ -18,7 +18,7 @@ use Rattle.wal_evidence.specs.declared.evidence.Evidence.{Evidence}
 use Rattle.wal_evidence.specs.declared.evidence.Verdict.{Verdict}
 use Rattle.wal_evidence.specs.declared.evidence.Verdict.TheVariants.{Bytes, Reject}
 
--- the bytes of a primary sliver
+-- the number of bytes of a primary sliver
 abbrev pub sliver_bytes : BlobMetadata → ℕ
 sliver_bytes metadata = column_count metadata.f * symbol_size metadata.f metadata.length
 
@@ -33,8 +33,7 @@ pub record AreHeld (digest : List ℕ → List ℕ)
       → HoldsSliver digest metadata Primary (slice_index indices k)
       (region (sliver_bytes metadata) joined k)
 
--- a blob is given where the identifier that the metadata commits is its identifier, and is rejected
--- else
+-- a blob is given if its identifier is that of the metadata, and else it is rejected
 abbrev pub IsVerdictOn : (List ℕ → List ℕ) → BlobMetadata → List ℕ → Verdict → Type 0
 IsVerdictOn digest metadata blob (Bytes bytes) =
     (bytes ≡ blob)
@@ -56,13 +55,13 @@ abbrev pub IsHeldBy : (List ℕ → List ℕ) → BlobMetadata → Basis → Typ
 IsHeldBy digest metadata (Slivers indices joined) = AreHeld digest metadata indices joined
 IsHeldBy digest metadata (Proof proof) = IsBadProof digest metadata proof
 
--- the verdict that it leads to
+-- the verdict that the basis leads to
 abbrev pub IsJudgedBy : (List ℕ → List ℕ) → BlobMetadata → Basis → Verdict → Type 0
 IsJudgedBy digest metadata (Slivers indices joined) verdict =
     Judges digest metadata indices joined verdict
 IsJudgedBy digest metadata (Proof proof) verdict = verdict ≡ Reject
 
--- evidence for an identifier: a metadata that it commits, and a basis that holds for that metadata
+-- evidence for an identifier: metadata that it commits, and a basis that holds for that metadata
 pub record IsEvidence (digest : List ℕ → List ℕ) (id : List ℕ) (evidence : Evidence) : Type 0 where
   pub committed : Commits digest id evidence.metadata
   pub held : IsHeldBy digest evidence.metadata evidence.basis
@@ -74,8 +73,8 @@ CommitsMatrix digest metadata blob extended =
     × (metadata ≡ metadata_over digest
     (record { format = metadata.format; f = metadata.f; length = length blob }) extended)
 
--- one of the slivers is not that of the matrix, though the metadata commits both under one root; or
--- one of the openings has not the symbol of the matrix, though it holds
+-- one of the slivers is not the matrix's, though the metadata commits both under one root; or one
+-- of the openings does not have the matrix's symbol, though it holds
 abbrev pub HasFalseSliver : (List ℕ → List ℕ) → BlobMetadata → List ℕ → Basis → Type 0
 HasFalseSliver digest metadata extended (Slivers indices joined) =
     (k : ℕ) × (k < length indices)

@@ -1,16 +1,16 @@
 -- The first of each key among what items give, in order, up to some number.
 use Rattle.std.specs.Prelude.{◌≡◌, ℕ, ◌<◌, List, [], ◌∷◌, ◌++◌, length, map, Contains}
 
--- what an item adds to what was taken before, where `Gives item given` says that an item gives
--- something, and no two have one key
+-- what an item adds to what was taken before, no two of which have one key; `Gives item given` says
+-- that an item gives something
 pub data Adds {X Y : Type 0} (Gives : X → Y → Type 0) (key : Y → ℕ)
     (most : ℕ) (x : X) (before after : List Y) : Type 0 where
-  -- what it gives, where fewer than `most` were taken and its key is new
+  -- what the item gives, if fewer than `most` were taken and its key is new
   adds : (given : Y) → length before < most → Gives x given
       → (Contains (map key before) (key given) → ⊥)
       → after ≡ before ++ given ∷ []
       → Adds Gives key most x before after
-  -- nothing, else
+  -- otherwise nothing
   keeps : ((given : Y) → length before < most → Gives x given
       → Contains (map key before) (key given))
       → after ≡ before → Adds Gives key most x before after

@@ -1,4 +1,4 @@
--- Blobs of one identifier, and whose the two texts are that they lead to.
+-- Blobs with one identifier, and what the two texts are digested for that they lead to.
 use Rattle.std.specs.Prelude.{◌≡◌, ◌⊎◌, ℕ, ◌<◌, List}
 use Rattle.wal_shape.specs.Shape.{BlobShape, shard_count, symbol_size}
 use Rattle.wal_tree.specs.Path.{MeetInTrees}
@@ -24,7 +24,7 @@ AreDigestedForRows digest shape extended other_extended left right =
     × MeetInTrees digest size (row_of n size extended index)
     (row_of n size other_extended index) left right
 
--- left and right are digested for the metadata of the two blobs, or where these are one for the
+-- left and right are digested for the metadata of the two blobs, or, if these are equal, for the
 -- first row in which their matrices differ
 abbrev pub AreDigestedForBlobs : (List ℕ → List ℕ) → BlobShape → List ℕ → BlobShape → List ℕ
     → List ℕ → List ℕ → Type 0

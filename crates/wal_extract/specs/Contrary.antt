@@ -1,5 +1,5 @@
--- Evidence that contradicts a blob, or other evidence, and whose the two texts are that both lead
--- to.
+-- Evidence that contradicts a blob, or other evidence, and what the two texts are digested for that
+-- both lead to.
 use Rattle.std.specs.Prelude.{◌≡◌, ◌≢◌, ◌⊎◌, ℕ, ◌*◌, ◌<◌, List, Some, length, slice_get}
 use Rattle.std.specs.Prelude.{slice_index}
 use Rattle.wal_kernel.specs.Region.{region}
@@ -38,8 +38,8 @@ pub record AreContrary (digest : List ℕ → List ℕ) (first second : Evidence
   pub right_judged : IsJudgedBy digest second.metadata second.basis right_verdict
   pub differ : left_verdict ≢ right_verdict
 
--- left and right are digested for one of the joined primary slivers, and for the sliver of its
--- index of the matrix
+-- left and right are digested for one of the joined primary slivers, and for the matrix's sliver of
+-- its index
 abbrev pub AreDigestedForJoined : (List ℕ → List ℕ) → ℕ → ℕ → List ℕ → List ℕ → List ℕ → List ℕ
     → List ℕ → Type 0
 AreDigestedForJoined digest f size extended indices joined left right =
@@ -47,8 +47,8 @@ AreDigestedForJoined digest f size extended indices joined left right =
     × AreDigestedForSlivers digest f Primary (region (column_count f * size) joined place)
     (primary_of f size extended (slice_index indices place)) left right
 
--- left and right are the texts in which the path of one of the openings meets that of the symbol
--- which the matrix has there
+-- left and right are the texts in which the path of one of the openings meets that of the matrix's
+-- symbol there
 abbrev pub AreDigestedForOpenings : (List ℕ → List ℕ) → ℕ → ℕ → List ℕ → EncodingProof → List ℕ
     → List ℕ → Type 0
 AreDigestedForOpenings digest f size extended proof left right =
@@ -57,7 +57,7 @@ AreDigestedForOpenings digest f size extended proof left right =
     MeetOnPaths digest proof.index opening.symbol opening.path (region size line proof.index)
     (path_over digest size line proof.index) left right)
 
--- by what evidence rests on
+-- left and right are digested for a sliver of the basis, or for an opening of its proof
 abbrev pub AreDigestedForBasis : (List ℕ → List ℕ) → ℕ → ℕ → List ℕ → Basis → List ℕ → List ℕ
     → Type 0
 AreDigestedForBasis digest f size extended (Slivers indices joined) left right =
@@ -65,8 +65,8 @@ AreDigestedForBasis digest f size extended (Slivers indices joined) left right =
 AreDigestedForBasis digest f size extended (Proof proof) left right =
     AreDigestedForOpenings digest f size extended proof left right
 
--- left and right are digested for the metadata of these bytes and of the evidence, or where these
--- are one for a part of what the evidence rests on and the same part of the bytes' matrix
+-- left and right are digested for the metadata of these bytes and of the evidence, or, if these are
+-- equal, for a part of the evidence's basis and the same part of the bytes' matrix
 abbrev pub AreDigestedForEvidence : (List ℕ → List ℕ) → BlobShape → List ℕ → Evidence → List ℕ
     → List ℕ → Type 0
 AreDigestedForEvidence digest shape bytes contrary left right =
@@ -89,8 +89,8 @@ AreDigestedForBlobOf digest first second left right =
     })
     blob second left right
 
--- one of both leads to a blob, and left and right are the texts that this blob and the other
--- evidence lead to; where both do, it is either
+-- one of the two leads to a blob, and left and right are the texts that this blob and the other
+-- evidence lead to; if both do, it may be either
 abbrev pub AreDigestedForEvidences : (List ℕ → List ℕ) → Evidence → Evidence → List ℕ → List ℕ
     → Type 0
 AreDigestedForEvidences digest first second left right =

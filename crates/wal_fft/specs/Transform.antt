@@ -27,7 +27,7 @@ table =
 abbrev pub entry : ℕ → ℕ → ℕ
 entry j i = slice_index table (10 * j + i)
 
--- t_j at the point x below 1024: it keeps sums, so it is the sum of its values at the bits of x
+-- t_j at the point x below 1024: it is additive, so this is the sum of its values at the bits of x
 unfoldable pub skew : ℕ → ℕ → ℕ
 skew j x = xor_below 10 (λ i. bit_at x i * entry j i)
 
@@ -37,21 +37,21 @@ value zero coefficients x = coefficients 0
 value (suc j) coefficients x =
     bit_xor (value j coefficients x) (times (skew j x) (value j (λ i. coefficients (2 ^ j + i)) x))
 
--- one word of the k-th of runs of `width` words
+-- one word of the k-th run of `width` words
 abbrev pub lane : ℕ → List ℕ → ℕ → ℕ → ℕ
 lane width bytes word k = word_at bytes (width * k + word)
 
--- At each word place, new has the values at the points from `from` to below `to` among those of
--- this block, of the polynomial whose coefficients old has. Block `index` has the points from
--- index * 2^level on, 2^level of them.
+-- At each word place, new has the values, at the points of this block from `from` to below `to`, of
+-- the polynomial whose coefficients old has. Block `index` has the 2^level points from index *
+-- 2^level on.
 abbrev pub AreValues : ℕ → ℕ → ℕ → ℕ → ℕ → List ℕ → List ℕ → Type 0
 AreValues width level index from to old new =
     (word : ℕ) → word < width → (i : ℕ) → i < 2 ^ level → from ≤ index * 2 ^ level + i
     → index * 2 ^ level + i < to
     → lane width new word i ≡ value level (lane width old word) (index * 2 ^ level + i)
 
--- At each word place, new has coefficients of which old has the values at the first `known` points
--- of this block, and from `known` on the coefficients are those that old has.
+-- At each word place, new has the coefficients of a polynomial whose values at the first `known`
+-- points of this block old has, and from `known` on the coefficients are those that old has.
 pub record AreCoefficients (width level index known : ℕ) (old new : List ℕ) : Type 0 where
   pub values : (word : ℕ) → word < width → (i : ℕ) → i < known
       → lane width old word i ≡ value level (lane width new word) (index * 2 ^ level + i)

@@ -6,6 +6,6 @@ pub record Buffer : Type 0 where
   pub bytes : List ℕ
   pub spare : ℕ
 
--- the buffer behind which a text was written
+-- the buffer after a text was appended
 abbrev pub appended : Buffer → List ℕ → Buffer
 appended buffer text = record { bytes = buffer.bytes ++ text; spare = buffer.spare - length text }

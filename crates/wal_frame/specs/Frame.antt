@@ -11,7 +11,7 @@ use Rattle.wal_shape.specs.Opening.{IsBody}
 use Rattle.wal_shape.specs.EncodingProof.{EncodingProof, IsProof}
 use Rattle.wal_shape.specs.Spelling.{number_text, axis_number, metadata_text, body_text, proof_text}
 
--- what the store's messages say, each of a blob's identifier where it names one
+-- what the store's messages say, each with a blob's identifier if it names one
 pub data Frame : Type 0 where
   -- a blob's metadata, whose format decides the kind
   Metadata : BlobMetadata → Frame
@@ -31,7 +31,7 @@ pub data Frame : Type 0 where
   Answer : ℕ → ℕ → ℕ → Frame
   -- two texts of one digest
   Clash : List ℕ → List ℕ → Frame
-  -- entries of the ledger: until when, or the shard
+  -- entries of the ledger, with the epoch until which they register, or with the shard
   RegisterEntry : List ℕ → ℕ → Frame
   AckEntry : ℕ → List ℕ → Frame
   AttestEntry : ℕ → List ℕ → Frame
@@ -40,7 +40,7 @@ pub data Frame : Type 0 where
 abbrev pub IsId : List ℕ → Type 0
 IsId id = length id ≡ 32
 
--- an identifier of 32 bytes, an index of a shard, and no more bytes than any blob needs
+-- an identifier of 32 bytes, the index of a shard, and no more bytes than a blob may have
 pub record IsSliver (id : List ℕ) (index : ℕ) (bytes : List ℕ) : Type 0 where
   pub id_size : length id ≡ 32
   pub index_most : index ≤ 999
@@ -57,7 +57,7 @@ pub record IsAnswerFrame (code first second : ℕ) : Type 0 where
   pub a_fits : first < 2 ^ 32
   pub b_fits : second < 2 ^ 32
 
--- two texts that are no longer than any that a digest is taken of
+-- two texts no longer than the longest that is digested
 pub record AreTexts (left right : List ℕ) : Type 0 where
   pub left_most : length left ≤ 65
   pub right_most : length right ≤ 65
@@ -79,12 +79,12 @@ IsFrame (RegisterEntry id until) = IsId id × (until ≤ 65536)
 IsFrame (AckEntry shard id) = IsTarget id shard
 IsFrame (AttestEntry shard id) = IsTarget id shard
 
--- the kind of a metadata of either format
+-- the kind of a metadata frame, by format
 abbrev pub metadata_kind : Format → ℕ
 metadata_kind One = 0x10
 metadata_kind Two = 0x14
 
--- a frame that carries a metadata
+-- a frame that carries metadata
 abbrev pub metadata_frame : BlobMetadata → List ℕ
 metadata_frame metadata = metadata_kind metadata.format ∷ metadata_text metadata
 

@@ -11,7 +11,7 @@ BeginsNone bytes =
     (sender : ℕ) (payload after : List ℕ) → IsPayload payload
     → bytes ≡ envelope sender payload ++ after → ⊥
 
--- no bytes, or a front of an envelope that is not all there
+-- no bytes, or the front of an envelope that is not complete
 abbrev pub IsPart : List ℕ → Type 0
 IsPart [] = ⊤
 IsPart (byte ∷ bytes) = (byte ≡ 0x57) × BeginsNone (byte ∷ bytes)
@@ -21,7 +21,7 @@ abbrev pub IsWrong : List ℕ → Type 0
 IsWrong [] = ⊥
 IsWrong (byte ∷ bytes) = byte ≡ 0x57 → ⊥
 
--- the bytes begin so
+-- what the bytes begin with: a whole envelope, a part of one, or a wrong byte
 abbrev pub BeginsWith : Envelope → List ℕ → Type 0
 BeginsWith (Whole sender payload rest) bytes =
     IsPayload payload.now × (bytes ≡ envelope sender payload.now ++ rest.now)
@@ -34,7 +34,7 @@ whole_in (Whole sender payload rest) = Some (payload.now, rest.now)
 whole_in Part = None
 whole_in Wrong = None
 
--- it is this whole envelope
+-- this is a whole envelope with this sender, payload and rest
 abbrev pub IsWhole : Envelope → ℕ → List ℕ → List ℕ → Type 0
 IsWhole (Whole sender payload rest) who bytes after =
     (sender ≡ who) × (payload.now ≡ bytes) × (rest.now ≡ after)

@@ -10,7 +10,7 @@ use Rattle.wal_frame.specs.Buffer.{Buffer, appended}
 abbrev pub written : List ℕ → List ℕ → List ℕ
 written old given = take (length old) (given ++ drop (length given) old)
 
--- bytes whose last ones, from a place on, were written to
+-- bytes that were written to from a place on
 abbrev pub written_from : ℕ → List ℕ → List ℕ → List ℕ
 written_from start old given =
     written old (take start old ++ (given ++ drop (length given) (drop start old)))

@@ -28,7 +28,7 @@ IsPlaceBelow n BadKind = ⊤
 IsPlaceBelow n (BadField place) = place < n
 IsPlaceBelow n Trailing = ⊤
 
--- the fault of a part that begins at this place is the frame's
+-- a fault in a part that begins at this place, as a fault of the frame
 abbrev pub fault_from : ℕ → BodyFault → FrameError
 fault_from start field.Truncated = Truncated
 fault_from start (field.BadField place) = BadField (start + place)
@@ -37,7 +37,7 @@ abbrev pub from_place : {A : Type 0} → ℕ → Result A BodyFault → Result A
 from_place start (Ok x) = Ok x
 from_place start (Err fault) = Err (fault_from start fault)
 
--- the fault of a field whose place is counted from the kind is the frame's
+-- a fault in a field whose place is counted from the kind, as a fault of the frame
 abbrev pub frame_fault : BodyFault → FrameError
 frame_fault field.Truncated = Truncated
 frame_fault (field.BadField place) = BadField place
@@ -81,7 +81,7 @@ faults_at place bytes = do
   f ← field_at w16 place 333 bytes
   if f.0 == 0 then Err (BadField place) else Ok f
 
--- f, the length and the pairs of roots from this place on: the bytes after them
+-- the bytes after f, the length and the pairs of roots, which stand from this place on
 unfoldable pub roots_at : ℕ → List ℕ → Result (List ℕ) FrameError
 roots_at place bytes = do
   f ← faults_at place bytes
@@ -194,7 +194,7 @@ entry_at bytes = do
   id ← bytes_at 32 shard.1
   ended (shard.0, id.0) id.1
 
--- a frame that is made of what was read
+-- the frame made from what was read, or the fault
 abbrev pub made : {A : Type 0} → (A → Frame) → Result A FrameError → Result Frame FrameError
 made frame (Ok x) = Ok (frame x)
 made frame (Err fault) = Err fault

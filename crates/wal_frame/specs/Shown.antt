@@ -28,7 +28,7 @@ frame_shown (lent.RegisterEntry id until) = RegisterEntry id.0 until
 frame_shown (lent.AckEntry shard id) = AckEntry shard id.0
 frame_shown (lent.AttestEntry shard id) = AttestEntry shard id.0
 
--- the variant of a metadata is that of its format
+-- metadata is lent as the variant of its format
 abbrev pub IsLentKind : FrameRef → Type 0
 IsLentKind (lent.Metadata metadata) = (metadata_shown metadata).format ≡ One
 IsLentKind (lent.Sliver id sliver) = ⊤

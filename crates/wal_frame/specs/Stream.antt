@@ -15,7 +15,7 @@ IsPayload payload = length payload < 2 ^ 32
 abbrev pub size_in : List ℕ → ℕ
 size_in bytes = from_be_bytes w32 (take 4 (drop 3 bytes))
 
--- so many bytes as payload, and the bytes after them
+-- `size` bytes as the payload, and the bytes after them
 abbrev pub payload_at : ℕ → List ℕ → Option (List ℕ × List ℕ)
 payload_at size bytes =
     if nat_lt (length bytes) size then None else Some (take size bytes, drop size bytes)
@@ -26,12 +26,12 @@ envelope_at bytes =
     if nat_lt (length bytes) 7 then None
     else (if slice_index bytes 0 == 0x57 then payload_at (size_in bytes) (drop 7 bytes) else None)
 
--- payloads, and those of the bytes that follow their n bytes of envelopes
+-- payloads whose envelopes have n bytes, and those of the bytes that follow
 abbrev pub behind : List (List ℕ) → ℕ → Result (List (List ℕ)) ℕ → Result (List (List ℕ)) ℕ
 behind payloads n (Ok others) = Ok (payloads ++ others)
 behind payloads n (Err place) = Err (n + place)
 
--- the envelope that stands at the front, and what its followers give
+-- the payload of the envelope at the front, and those of the envelopes after it
 abbrev pub front_of : Option (List ℕ × List ℕ) → (List ℕ → Result (List (List ℕ)) ℕ)
     → Result (List (List ℕ)) ℕ
 front_of None others = Err 0
@@ -47,7 +47,7 @@ payloads_in (suc n) (byte ∷ bytes) = front_of (envelope_at (byte ∷ bytes)) (
 abbrev pub stream_of : List ℕ → Result (List (List ℕ)) ℕ
 stream_of bytes = payloads_in (length bytes) bytes
 
--- what is said of the place of a malformed stream
+-- what is said of the place, if the stream is malformed
 abbrev pub IfMalformed : SplitError → (ℕ → Type 0) → Type 0
 IfMalformed (Malformed place) IsSaid = IsSaid place
 IfMalformed Memory IsSaid = ⊤

@@ -5,7 +5,7 @@ use Rattle.wal_gateway.specs.declared.answer.GetAnswer.{GetAnswer}
 use Rattle.wal_gateway.specs.Getting.{AnswersGet, Cache, Get}
 use Rattle.wal_gateway.specs.Gotten.{IsOnlyAnswer}
 
--- with its answer, which is the only one; or memory was wanted, and the list is as it was
+-- with its answer, which is the only one; or memory ran out, and the list is as it was
 abbrev pub EndsGet : (List ℕ → List ℕ) → Cache → Get → Result GetAnswer AllocError → Cache → Type 0
 EndsGet digest old get result new =
     MatchResult result (λ answer.

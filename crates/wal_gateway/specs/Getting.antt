@@ -1,5 +1,5 @@
--- What a get of a blob's bytes answers over a list of blobs that were checked before, and what it
--- leaves of the list.
+-- What a get of a blob's bytes answers over a list of blobs that were checked before, and the list
+-- that it leaves.
 use Rattle.std.specs.Prelude.{◌≡◌, ℕ, ◌+◌, List, [], ◌∷◌, length, take, drop, cond, nat_le, Option}
 use Rattle.std.specs.Prelude.{MatchOption, true, false}
 use Rattle.std.specs.Map.{lookup, remove_entry}
@@ -40,7 +40,7 @@ kept_blob cache id = lookup (id_eq id) cache.pairs
 abbrev pub used : Cache → BlobId → CheckedBlob → Cache
 used cache id blob = record cache { pairs = (id, blob) ∷ remove_entry (id_eq id) cache.pairs }
 
--- a pair is put to the front, and the last one beyond the capacity goes
+-- a pair is put at the front, and the last one beyond the capacity goes
 abbrev pub entered : Cache → BlobId → CheckedBlob → Cache
 entered cache id blob = record cache { pairs = take cache.capacity ((id, blob) ∷ cache.pairs) }
 
@@ -50,7 +50,7 @@ range_of from size bytes =
     cond (nat_le (from + size) (length bytes))
     (Range (take size (drop from bytes))) (OutOfRange (length bytes))
 
--- what is found where a read comes to this outcome
+-- what is found if a read has this outcome
 abbrev pub found_of : ℕ → ℕ → Outcome → Found
 found_of from size (read.Bytes bytes) = range_of from size bytes
 found_of from size read.Reject = Reject
@@ -66,8 +66,8 @@ blob_with metadata bytes =
       bytes = bytes;
     }
 
--- what a read with this outcome leaves of the list: the blob enters it, and anything else leaves it
--- as it was
+-- the list that a read with this outcome leaves: the blob enters it, and anything else leaves it as
+-- it was
 abbrev pub Leaves : (List ℕ → List ℕ) → Cache → Get → Outcome → Cache → Type 0
 Leaves digest old get (read.Bytes bytes) new =
     (metadata : BlobMetadata) × IsMetadataIn digest get.id.0 get.payloads metadata
@@ -83,7 +83,7 @@ Hits old get blob answer new =
     (answer ≡ record { hit = true; found = range_of get.from get.size blob.bytes })
     × (new ≡ used old get.id blob)
 
--- it is not: the answer is from what the payloads come to
+-- it is not: the answer is from a read of the payloads
 abbrev pub Misses : (List ℕ → List ℕ) → Cache → Get → GetAnswer → Cache → Type 0
 Misses digest old get answer new =
     (outcome : Outcome) × IsOutcome digest get.id.0 get.payloads outcome
@@ -96,7 +96,7 @@ AnswersGet digest old get answer new =
     MatchOption (kept_blob old get.id) (Misses digest old get answer new)
     (λ blob. Hits old get blob answer new)
 
--- what gets, one after the other, answer, and the list that the last leaves
+-- the answers of gets, one after the other, and the list that the last one leaves
 abbrev pub AnswersAll : (List ℕ → List ℕ) → Cache → List Get → List GetAnswer → Cache → Type 0
 AnswersAll digest old [] [] new = new ≡ old
 AnswersAll digest old (get ∷ gets) (answer ∷ answers) new =

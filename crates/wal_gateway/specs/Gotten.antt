@@ -27,7 +27,7 @@ IsOnlyAnswer digest old get answer new =
     (other : GetAnswer) (left : Cache) → AnswersGet digest old get other left
     → SameGetAnswer other answer × (left ≡ new)
 
--- and so of gets one after the other
+-- the same for gets one after the other
 abbrev pub AreOnlyAnswers : (List ℕ → List ℕ) → Cache → List Get → List GetAnswer → Cache → Type 0
 AreOnlyAnswers digest old gets answers new =
     (others : List GetAnswer) (left : Cache) → AnswersAll digest old gets others left

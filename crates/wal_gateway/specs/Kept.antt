@@ -49,7 +49,7 @@ AreDigestedForKept digest cache id shown left right =
     (blob : CheckedBlob) × (kept_blob cache id ≡ Some blob)
     × AreDigestedForEvidence digest blob.shape blob.bytes shown left right
 
--- what is found is what a read of the payloads alone finds, where that is a verdict; or the read's
+-- what is found is what a read of the payloads alone finds, if that is a verdict; or the read's
 -- evidence contradicts the blob in the list
 abbrev pub IsFreshOrContrary : (List ℕ → List ℕ) → Cache → Get → GetAnswer → Type 0
 IsFreshOrContrary digest cache get answer =

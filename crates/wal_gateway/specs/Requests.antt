@@ -13,7 +13,7 @@ use Rattle.wal_gateway.specs.Getting.{Cache, Get, asked}
 abbrev pub is_request : List ℕ → Bool
 is_request payload = nat_eq (length payload) 41 && nat_eq (slice_index payload 0) 67
 
--- behind the first byte the identifier, the place and the number of the bytes
+-- behind the first byte: the identifier, the place and the number of the bytes
 abbrev pub request_at : List ℕ → Request
 request_at payload = record {
   id = record { 0 = slice_range payload 1 33 };
@@ -29,7 +29,7 @@ request_of payload = cond (is_request payload) (Some (request_at payload)) None
 abbrev pub get_of : List (List ℕ) → Request → Get
 get_of replies request = asked request.id request.from request.size replies
 
--- the gets of payloads, where these replies came before
+-- the gets among payloads, if these replies came before
 abbrev pub gets_in : List (List ℕ) → List (List ℕ) → List Get
 gets_in replies [] = []
 gets_in replies (payload ∷ payloads) =
@@ -40,8 +40,8 @@ gets_in replies (payload ∷ payloads) =
 abbrev pub no_blobs : ℕ → Cache
 no_blobs capacity = record { pairs = []; capacity = capacity }
 
--- the first request among payloads: the replies before it, and the payloads behind it, of which the
--- further gets are
+-- the first request among payloads: the replies before it, and the payloads behind it, among which
+-- the further gets are
 pub record IsFirstRequest (payloads : List (List ℕ)) (asks : Asked) : Type 0 where
   pub replies : List (List ℕ)
   pub later : List (List ℕ)

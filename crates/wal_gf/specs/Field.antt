@@ -22,12 +22,12 @@ xor_below (suc n) f = bit_xor (xor_below n f) (f n)
 unfoldable pub product : ℕ → ℕ → ℕ → ℕ
 product n a b = xor_below n (λ i. bit_at a i * (2 ^ i * b))
 
--- a polynomial without its term of degree 16 + i: if that is there, x^i times the modulus is taken
--- from it
+-- a polynomial without its term of degree 16 + i: if it has that term, x^i times the modulus is
+-- subtracted
 unfoldable pub cancel : ℕ → ℕ → ℕ
 cancel i bits = bit_xor bits (bit_at bits (16 + i) * (2 ^ i * modulus))
 
--- what is left of a polynomial of degree below 16 + n, when it is divided by the modulus
+-- the remainder of a polynomial of degree below 16 + n, divided by the modulus
 unfoldable pub remainder : ℕ → ℕ → ℕ
 remainder zero bits = bits
 remainder (suc n) bits = remainder n (cancel n bits)
@@ -36,11 +36,11 @@ remainder (suc n) bits = remainder n (cancel n bits)
 unfoldable pub times : ℕ → ℕ → ℕ
 times a b = remainder 16 (product 16 a b)
 
--- the product of n times a
+-- a to the power n
 unfoldable pub power : ℕ → ℕ → ℕ
 power a zero = 1
 power a (suc n) = times a (power a n)
 
--- what gives 1 times a, for each a but 0
+-- the element whose product with a is 1, for each a but 0
 abbrev pub inverse : ℕ → ℕ
 inverse a = power a 65534

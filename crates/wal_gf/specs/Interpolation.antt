@@ -14,11 +14,11 @@ abbrev pub HasValues : List ℕ → List ℕ → List ℕ → Type 0
 HasValues coefficients points values =
     EachIndex points (λ i. evaluate coefficients (slice_index points i) ≡ slice_index values i)
 
--- the same polynomial with zeros up to n coefficients
+-- the same polynomial, padded with zeros to n coefficients
 abbrev pub with_zeros : ℕ → List ℕ → List ℕ
 with_zeros n coefficients = coefficients ++ replicate (n - length coefficients) 0
 
--- a polynomial of degree below the number of points that has these values is this one, but for
+-- each polynomial of degree below the number of points that has these values is this one, but for
 -- zeros at its end
 abbrev pub IsOnlyWithValues : List ℕ → List ℕ → List ℕ → Type 0
 IsOnlyWithValues coefficients points values =

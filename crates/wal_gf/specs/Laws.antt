@@ -1,18 +1,18 @@
--- The laws of a field, of an operation on words; and what shows that the definitions of Field are
--- the textbook's.
+-- The laws of a field, for operations on words, and statements which show that the definitions of
+-- Field are the textbook's.
 use Rattle.std.specs.Prelude.{◌≡◌, ◌≢◌, ℕ, ◌^◌, ◌<◌, ◌≤◌, List, length, All, AllPairs, bit_xor}
 use Rattle.wal_gf.specs.Field.{IsWord, modulus, product, remainder, times}
 use Rattle.wal_gf.specs.Polynomial.{evaluate}
 
--- what it makes of two words is a word
+-- the operation takes two words to a word
 abbrev pub StaysInWords : (ℕ → ℕ → ℕ) → Type 0
 StaysInWords op = (a b : ℕ) → IsWord a → IsWord b → IsWord (op a b)
 
--- it associates
+-- the operation is associative
 abbrev pub Associates : (ℕ → ℕ → ℕ) → Type 0
 Associates op = (a b c : ℕ) → IsWord a → IsWord b → IsWord c → op (op a b) c ≡ op a (op b c)
 
--- it commutes
+-- the operation is commutative
 abbrev pub Commutes : (ℕ → ℕ → ℕ) → Type 0
 Commutes op = (a b : ℕ) → IsWord a → IsWord b → op a b ≡ op b a
 
@@ -20,7 +20,7 @@ Commutes op = (a b : ℕ) → IsWord a → IsWord b → op a b ≡ op b a
 abbrev pub HasUnit : (ℕ → ℕ → ℕ) → ℕ → Type 0
 HasUnit op unit = (a : ℕ) → IsWord a → op a unit ≡ a
 
--- the first operation over the second, from the left
+-- the first operation distributes over the second, from the left
 abbrev pub Distributes : (ℕ → ℕ → ℕ) → (ℕ → ℕ → ℕ) → Type 0
 Distributes op over =
     (a b c : ℕ) → IsWord a → IsWord b → IsWord c → op a (over b c) ≡ over (op a b) (op a c)
@@ -44,14 +44,14 @@ HasFewRoots =
     → length coefficients ≤ length roots
     → All (λ c. c ≡ 0) coefficients
 
--- the rest that is left if the whole is divided by the modulus: the whole is some quotient times
--- the modulus, and the rest
+-- the remainder of the whole divided by the modulus: the whole is some quotient times the modulus,
+-- plus the rest
 abbrev pub IsLeft : ℕ → ℕ → Type 0
 IsLeft whole rest =
     IsWord rest
     × ((quotient : ℕ) × IsWord quotient × (bit_xor (product 16 quotient modulus) rest ≡ whole))
 
--- `remainder` is division with remainder: what it gives is left, and nothing else is
+-- `remainder` is division with remainder: its value is left, and nothing else is
 abbrev pub DividesWithRemainder : Type 0
 DividesWithRemainder =
     (whole : ℕ) → whole < 2 ^ 32

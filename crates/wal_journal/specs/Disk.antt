@@ -7,18 +7,18 @@ abbrev pub IsIn : List (ℕ × ℕ) → ℕ → Type 0
 IsIn [] k = ⊥
 IsIn (range ∷ ranges) k = ((range.0 ≤ k) × (k < range.0 + range.1)) ⊎ IsIn ranges k
 
--- an image of as many bytes, which are the same outside the ranges
+-- an image of the same length, with the same bytes outside the ranges
 pub record Agrees (ranges : List (ℕ × ℕ)) (bytes image : List ℕ) : Type 0 where
   pub long : length image ≡ length bytes
   pub outside : (k : ℕ) → (IsIn ranges k → ⊥) → get_or image k 0 ≡ get_or bytes k 0
 
--- the old bytes with others in their place from a place on
+-- the old bytes, overwritten with others from a place on
 abbrev pub put_at : ℕ → List ℕ → List ℕ → List ℕ
 put_at at bytes old = take at old ++ bytes ++ drop (at + length bytes) old
 
--- Time goes on over a call: a crash since this time may have left what it may have left before the
--- call, or what it may leave after it. A crash within the call leaves what it may leave after it,
--- at a moment that has the clock from before.
+-- Time passes over a call: a crash since this time may have left what it might have left before the
+-- call, or what it may leave after it. A crash during the call leaves what one after it may leave,
+-- with the clock still as before.
 pub record Elapses (before after : ℕ) (past since : ℕ → List ℕ → Type 0)
     (may_leave : List ℕ → Type 0) : Type 0 where
   pub later : before ≤ after
@@ -26,8 +26,8 @@ pub record Elapses (before after : ℕ) (past since : ℕ → List ℕ → Type 
       → ((time ≤ before) × past time image) ⊎ ((time ≤ after) × may_leave image)
   pub keeps : (time : ℕ) (image : List ℕ) → time ≤ before → past time image → since time image
 
--- what a write of n bytes does to what is pending, the newest first: one that fails adds its range,
--- or changes nothing
+-- what a write of n bytes does to the pending ranges, the newest first: one that fails adds its
+-- range, or changes nothing
 abbrev pub Writes : {E : Type 0} → ℕ → ℕ → Result (Unit {0}) E → List ℕ → List ℕ → List (ℕ × ℕ)
     → List (ℕ × ℕ) → ℕ → ℕ → Type 0
 Writes at n (Ok done) old new pending pending' clock clock' =

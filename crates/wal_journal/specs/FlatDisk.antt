@@ -1,4 +1,4 @@
--- What contracts see of a disk that tells no crash.
+-- What contracts see of a disk that says nothing of crashes.
 use Rattle.std.specs.Prelude.{ℕ, List}
 use Rattle.wal_journal.specs.declared.flat_disk.FlatDisk.{FlatDisk}
 

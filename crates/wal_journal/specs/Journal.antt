@@ -47,7 +47,7 @@ IsDiskFull (Err (Kept journal (DiskFull needed free))) = ⊤
 IsDiskFull (Err (Kept journal other)) = ⊥
 IsDiskFull (Err (Stopped disk keep)) = ⊥
 
--- a change was not refused: it was made, or the disk failed while it was
+-- a change was not refused: it was made, or the disk failed while it was being made
 abbrev pub IsTried : {D K : Type 0} {disk_ghosts : _} {keep_ghosts : _}
     → Result (Journal D K disk_ghosts keep_ghosts) (ChangeRefusal D K disk_ghosts keep_ghosts)
     → Type 0
@@ -55,15 +55,15 @@ IsTried (Ok journal) = ⊤
 IsTried (Err (Kept journal why)) = ⊥
 IsTried (Err (Stopped disk keep)) = ⊤
 
--- a change in flight has not happened, or it has, and a keep of this limit that held this had room
--- for it
+-- a change in flight has not happened, or it has, and a keep of this limit with these contents had
+-- room for it
 abbrev pub FitsEitherWay : Option ℕ → Contents → List Call → Call → List ℕ → Type 0
 FitsEitherWay limit held changes call image =
     Accepts image changes
     ⊎ (HadRoomForPuts limit held (call ∷ []) × Accepts image (changes ++ call ∷ []))
 
--- why a put is refused: more bytes are needed than are free on the disk; or, where there are as
--- many, as the keep answers
+-- why a put is refused: it needs more bytes than are free on the disk; or, if enough are free, as
+-- the keep answers
 abbrev pub IsPutWhy : ℕ → ℕ → Option ℕ → Bool → Contents → BlobId → List ℕ → Why → Type 0
 IsPutWhy len tail limit may_want contents id bytes (DiskFull needed free) =
     (needed ≡ 39 + length bytes) × (free ≡ len - tail - 1) × (free < needed)
@@ -85,7 +85,7 @@ span (call ∷ changes) = length (records (call ∷ changes)) + 1
 
 -- More changes were made: they are accepted behind the others, the keep had room for them and holds
 -- what they make, and a closed gate of value 0 stands behind the records that were written, and no
--- other byte is.
+-- other byte was written.
 pub record Takes {D K : Type 0} {disk_ghosts : _} {keep_ghosts : _} (now : D → List ℕ)
     (contents : K → Contents) (most : K → Option ℕ) (old : Journal D K disk_ghosts keep_ghosts)
     (more : List Call) (new : Journal D K disk_ghosts keep_ghosts) : Type 0 where
@@ -100,8 +100,8 @@ pub record Takes {D K : Type 0} {disk_ghosts : _} {keep_ghosts : _} (now : D →
   pub size : length (now new.disk) ≡ length (now old.disk)
   pub only : Agrees ((old.tail, span more) ∷ []) (now old.disk) (now new.disk)
 
--- The disk failed: no more bytes may have changed than the records take, the bytes stand for what a
--- crash may leave, and the keep holds what the changes make already.
+-- The disk failed: only bytes that the records take may have changed, the bytes stand for what a
+-- crash may leave, and the keep already holds what the changes make.
 pub record Stops {D K : Type 0} {disk_ghosts : _}
     {keep_ghosts : _} (now : D → List ℕ) (faults : D → ℕ)
     (contents : K → Contents) (most : K → Option ℕ)
@@ -113,7 +113,7 @@ pub record Stops {D K : Type 0} {disk_ghosts : _}
   pub holds : contents keep ≡ after_calls (contents old.keep) more
   pub limit : most keep ≡ most old.keep
 
--- How a change ends: it is made; or the journal is as before, for such a reason; or the disk
+-- How a change ends: it is made; or the journal is as before, for the given reason; or the disk
 -- failed.
 abbrev pub EndsChange : {D K : Type 0} {disk_ghosts : _} {keep_ghosts : _} → (D → List ℕ) → (D → ℕ)
     → (K → Contents)

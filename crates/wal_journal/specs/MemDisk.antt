@@ -1,4 +1,4 @@
--- What contracts see of a disk in memory, and what a crash of it may have left.
+-- What contracts see of a disk in memory, and what a crash may have left of it.
 use Rattle.std.specs.Prelude.{ℕ, ◌*◌, ◌<◌, ◌≤◌, ◌⊎◌, List, [], ◌∷◌, length, take, drop}
 use Rattle.std.proofs.Common.{inl, inr, arith}
 use Rattle.wal_shape.specs.Shape.{most_bytes}
@@ -7,7 +7,7 @@ use Rattle.wal_journal.specs.declared.mem_disk.MemDisk.{MemDisk}
 use Rattle.wal_journal.specs.declared.mem_disk.Step.{Step}
 use Rattle.wal_journal.specs.declared.mem_disk.Step.TheVariants.{Written, Synced}
 
--- the most bytes that a disk in memory keeps of what it was: as many as a blob may have
+-- the most bytes that a disk in memory keeps of its past: as many as a blob may have
 abbrev pub most_past : ℕ
 most_past = most_bytes
 
@@ -41,7 +41,7 @@ pending_after pending (Synced ∷ steps) = pending_after [] steps
 abbrev pub disk_pending : MemDisk → List (ℕ × ℕ)
 disk_pending disk = pending_after [] disk.steps.items
 
--- how many steps there were that wrote or synced
+-- how many steps there were, each of which wrote or synced
 abbrev pub disk_clock : MemDisk → ℕ
 disk_clock disk = length disk.steps.items
 
@@ -61,14 +61,14 @@ LeftSince steps past bytes time image =
 abbrev pub disk_since : MemDisk → ℕ → List ℕ → Type 0
 disk_since disk = LeftSince disk.steps.items disk.past.items disk.bytes.items
 
--- what might have been left since later might have been left since before
+-- what a crash since a later time might have left, one since an earlier time might have left
 pub since_earlier : (steps : List Step) (past bytes : List ℕ) (image : List ℕ) (time later : ℕ)
     → time ≤ later → LeftSince steps past bytes later image → LeftSince steps past bytes time image
 since_earlier steps past bytes image time later le (inl now) = inl (omega (arith, le, now.0), now.1)
 since_earlier steps past bytes image time later le (inr before) =
     inr (before.0, omega (arith, le, before.1), before.2, before.3)
 
--- since now, there is what may be left now
+-- a crash since now leaves what may be left now
 pub since_now : (steps : List Step) (past bytes : List ℕ) (image : List ℕ)
     → LeftSince steps past bytes (length steps) image → Agrees (pending_after [] steps) bytes image
 since_now steps past bytes image (inl now) = now.1

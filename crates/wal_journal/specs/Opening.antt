@@ -19,7 +19,7 @@ abbrev pub opened_keep : {D K : Type 0} {disk_ghosts : _} {keep_ghosts : _}
 opened_keep (Ok journal) = journal.keep
 opened_keep (Err refusal) = refusal.keep
 
--- what was read of these bytes, and why no more
+-- what was read from these bytes, and why the reading ended
 abbrev pub IsOpening : {D K : Type 0} {disk_ghosts : _} {keep_ghosts : _} → Option ℕ → Bool
     → (K → Contents) → List ℕ
     → Result (Journal D K disk_ghosts keep_ghosts) (OpenRefusal D K) → Type 0

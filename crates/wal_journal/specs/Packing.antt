@@ -23,8 +23,8 @@ use Rattle.wal_journal.specs.Record.{records, Accepts, EitherWay}
 use Rattle.wal_journal.specs.Reading.{HadRoomForPuts}
 use Rattle.wal_journal.specs.Journal.{IsPutWhy, span, Takes}
 
--- the identifier under which a frame's part is put: that which a metadata commits, or the one that
--- is named
+-- the identifier under which a frame's part is put: the one that commits the metadata, or the one
+-- that the frame names
 abbrev pub carried_id : (List ℕ → List ℕ) → Frame → BlobId
 carried_id digest (Metadata metadata) = record { 0 = identifier_of digest metadata }
 carried_id digest (Sliver id axis index bytes) = record { 0 = id }
@@ -36,7 +36,7 @@ abbrev pub put_of : (List ℕ → List ℕ) → Frame → Option Call
 put_of digest frame =
     option_map (λ part. Put (carried_id digest frame) part (stored_bytes frame)) (stored_part frame)
 
--- the same of a payload, which may be no frame
+-- the same for a payload, which may be no frame
 abbrev pub put_in : (List ℕ → List ℕ) → Result Frame FrameError → Option Call
 put_in digest (Ok frame) = put_of digest frame
 put_in digest (Err fault) = None
@@ -48,21 +48,21 @@ is_lawful held (Put id part bytes) = is_absent (part_at held id part) && is_fit 
 is_lawful held (DropPart id part) = true
 is_lawful held (DropId id) = true
 
--- a change, unless there is none or it is not lawful, and those that follow on what is held then
+-- a change, unless there is none or it is not lawful, and those that follow, by what is held then
 abbrev pub and_more : Contents → Option Call → (Contents → List Call) → List Call
 and_more held None others = others held
 and_more held (Some call) others =
     if is_lawful held call then call ∷ others (after_call held call) else others held
 
--- THE PUTS OF PAYLOADS, in order: of each part that one carries, unless such a part is held then,
--- or no keep takes its bytes
+-- THE PUTS OF PAYLOADS, in order: of each part that a payload carries, unless such a part is
+-- already held, or no keep takes its bytes
 abbrev pub puts_of : (List ℕ → List ℕ) → Contents → List (List ℕ) → List Call
 puts_of digest held [] = []
 puts_of digest held (payload ∷ payloads) =
     and_more held (put_in digest (read_of payload)) (λ now. puts_of digest now payloads)
 
--- an image accepts a front of the puts behind these changes, and a keep of this limit that held
--- this had room for it
+-- an image accepts a prefix of the puts behind these changes, and a keep of this limit with these
+-- contents had room for it
 abbrev pub AcceptsFront : Option ℕ → Contents → List Call → List Call → List ℕ → Type 0
 AcceptsFront limit held changes puts image =
     (first : List Call) × (rest : List Call) × (puts ≡ first ++ rest)
@@ -84,9 +84,9 @@ pub record Refuses {D K : Type 0} {disk_ghosts : _} {keep_ghosts : _} (now : D �
   pub refused : IsPutWhy (length (now new.disk)) new.tail
       (most new.keep) may_want (contents new.keep) id bytes why
 
--- The disk failed while one of the puts was made: those before it are made, and each crash leaves
--- an image that goes on after them; it fits on the disk, the keep had room for it and holds it, and
--- it may be made or not. No more bytes may have changed than their records take.
+-- The disk failed during one of the puts: those before it are made, and each crash leaves an image
+-- that goes on after them; the one fits on the disk, the keep had room for it and holds it, and it
+-- may be made or not. Only bytes that their records take may have changed.
 pub record StopsIn {D K : Type 0} {disk_ghosts : _}
     {keep_ghosts : _} (now : D → List ℕ) (faults : D → ℕ)
     (tells : Bool) (clock : D → ℕ) (since : D → ℕ → List ℕ → Type 0)
@@ -108,7 +108,7 @@ pub record StopsIn {D K : Type 0} {disk_ghosts : _}
   pub limit : most keep ≡ most old.keep
 
 -- How packing ends: all puts are made; or those before the first that is refused; or the disk
--- failed in one of them.
+-- failed during one of them.
 abbrev pub Packs : {D K : Type 0} {disk_ghosts : _} {keep_ghosts : _} → (D → List ℕ) → (D → ℕ)
     → Bool → (D → ℕ)
     → (D → ℕ → List ℕ → Type 0) → (K → Contents) → (K → Option ℕ) → Bool

@@ -84,7 +84,7 @@ Opens limit may_want now contents (Err Memory) =
 abbrev pub HasSynced : {D : Type 0} → (D → List (ℕ × ℕ)) → (D → ℕ) → D → D → Type 0
 HasSynced pending clock old new = (pending new ≡ []) × (clock old < clock new)
 
--- but for a disk that failed, a sync was made before all reading
+-- unless the disk failed, a sync was made before anything was read
 abbrev pub IsSynced : {D : Type 0} → (D → List (ℕ × ℕ)) → (D → ℕ) → D → D → OpenFault → Type 0
 IsSynced pending clock old new DiskFault = ⊤
 IsSynced pending clock old new why = HasSynced pending clock old new

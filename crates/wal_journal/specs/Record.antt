@@ -62,7 +62,7 @@ pub record Stands (image : List ℕ) (changes : List Call) : Type 0 where
   pub is : image ≡ records changes ++ gate ∷ rest
   pub closed : gate ≢ 1
 
--- and each of the changes is lawful after those before it, from nothing on
+-- and each of the changes is lawful after those before it, starting from no contents
 pub record Accepts (image : List ℕ) (changes : List Call) : Type 0 where
   pub stands : Stands image changes
   pub lawful : AreLawful no_contents changes
@@ -71,7 +71,7 @@ pub record Accepts (image : List ℕ) (changes : List Call) : Type 0 where
 abbrev pub EitherWay : List Call → Call → List ℕ → Type 0
 EitherWay changes call image = Accepts image changes ⊎ Accepts image (changes ++ call ∷ [])
 
--- an image stands for one list of changes at most
+-- an image stands for at most one list of changes
 abbrev pub StandsOnce : Type 0
 StandsOnce =
     (image : List ℕ) (changes others : List Call) → Stands image changes → Stands image others

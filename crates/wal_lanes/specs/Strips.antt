@@ -1,7 +1,7 @@
--- Pieces of equal length that come strip by strip: of each the same bytes at a time.
+-- Pieces of equal length that come strip by strip: the same bytes of each at a time.
 use Rattle.std.specs.Prelude.{◌≡◌, ℕ, ◌*◌, ◌<◌, List, ◌∷◌, length, take, drop}
 
--- the strip holds `long` bytes from `from` on of each of `count` pieces, one after the other
+-- the strip holds the `long` bytes from `from` on of each of `count` pieces, one after the other
 abbrev pub IsStrip : (ℕ → List ℕ → Type 0) → ℕ → ℕ → ℕ → List ℕ → Type 0
 IsStrip Has count from long strip =
     (k : ℕ) → k < count → (piece : List ℕ) → Has k piece

@@ -1,4 +1,4 @@
--- What the calls that enter something answer, and when.
+-- The answers of the calls that enter something, and when each is given.
 use Rattle.std.specs.Prelude.{◌≡◌, ℕ, ◌<◌, ◌≤◌, Bool, true, false, ◌&&◌}
 use Rattle.wal_shape.specs.declared.metadata.BlobId.{BlobId}
 use Rattle.wal_ledger.specs.declared.entry.Body.{Body}
@@ -44,17 +44,17 @@ pub record IsOpen (log : Log) (id : BlobId) : Type 0 where
   pub live : is_live log id ≡ true
   pub outlasts : writing log < until_of log id
 
--- the shard's node has not yet said so in the writing epoch
+-- the identifier is open, and the shard's node has not yet made the claim in the writing epoch
 pub record MayClaim (log : Log) (kind : Kind) (shard : ℕ) (id : BlobId) : Type 0 where
   pub open_to_claims : IsOpen log id
   pub first_time : signers log id kind (writing log) shard ≡ false
 
--- what is entered when a shard says so
+-- the entry by which a shard makes a claim
 abbrev pub claim_of : Kind → ℕ → BlobId → Body
 claim_of Holds shard id = Ack shard id
 claim_of Denies shard id = Attest shard id
 
--- the entry is made, and as many shards are now of nodes that said so
+-- the entry is made, and `count` shards are now of nodes that made the claim
 abbrev pub Claimed : Kind → LedgerState → ℕ → BlobId → ℕ → LedgerState → Type 0
 Claimed kind old shard id count new =
     MayClaim old.log kind shard id × (0 < old.spare) × (new ≡ takes_in old (claim_of kind shard id))
@@ -74,7 +74,7 @@ Claims kind old shard id (claiming.Counted count) new =
 Claims kind old shard id (claiming.Quorum count) new =
     Claimed kind old shard id count new × (quorum_size old.log.f ≤ count)
 
--- both answers as one
+-- the answers of both calls as one
 abbrev pub acked : AckAnswer → ClaimAnswer
 acked (acking.Counted count) = claiming.Counted count
 acked (acking.Certified count) = claiming.Quorum count

@@ -12,8 +12,8 @@ IsMadeIn epoch entry = (id : BlobId) → names id entry.body ≡ true → entry.
 abbrev pub IsMadeSince : ℕ → Entry → Type 0
 IsMadeSince epoch entry = is_begin entry.body ≡ false → entry.epoch ≡ epoch
 
--- what was entered before the last Begin has at most the reading epoch, and what was entered of
--- identifiers since then has the writing epoch
+-- entries before the last Begin are of at most the reading epoch, and entries since then that name
+-- an identifier are of the writing epoch
 pub record IsDated (log : Log) : Type 0 where
   pub earlier : All (λ entry. entry.epoch ≤ reading log) (phase log).before
   pub later : All (IsMadeIn (writing log)) (phase log).since

@@ -9,8 +9,8 @@ use Rattle.wal_ledger.specs.Ledger.{Log, phase, phase_in, reading, writing, is_m
 use Rattle.wal_ledger.specs.Within.{IsWithin}
 use Rattle.wal_ledger.specs.Handover.{IsMadeSince, IsDated}
 
--- the shard that says it, where one does, is of the committee of n shards, and owners that are
--- brought are owners of n shards
+-- the shard that makes an entry, if one does, is of the committee of n shards, and owners that a
+-- Begin brings are owners of n shards
 abbrev pub IsOfCommittee : ℕ → Body → Type 0
 IsOfCommittee n (Ack shard id) = shard < n
 IsOfCommittee n (Attest shard id) = shard < n
@@ -41,7 +41,7 @@ pub record IsLawful (log : Log) : Type 0 where
   pub dated : is_moving log ≡ true → IsDated log
   pub members : All (λ entry. IsOfCommittee (committee_size log.f) entry.body) log.entries
 
--- a call between two changes of the epoch leaves these
+-- what a call between two changes of the epoch leaves as it is
 pub record SameEpoch (old new : Log) : Type 0 where
   pub f : new.f ≡ old.f
   pub first : new.first ≡ old.first

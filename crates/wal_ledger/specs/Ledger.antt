@@ -17,8 +17,8 @@ use Rattle.wal_ledger.specs.declared.entry.Kind.{Kind}
 use Rattle.wal_ledger.specs.declared.entry.Kind.TheVariants.{Holds, Denies}
 use Rattle.wal_ledger.specs.Shards.{count_below, committee_size, quorum_size}
 
--- the most faulty shards of a committee, the epoch in which the ledger begins, the node of each
--- shard in it, and the entries
+-- the greatest number of faulty shards of a committee, the epoch in which the ledger begins, the
+-- node of each shard in it, and the entries
 pub record Log : Type 0 where
   pub f : ℕ
   pub first : ℕ
@@ -45,13 +45,13 @@ phase_after Finish entry stage =
     record stage { finishes = stage.finishes + 1; since = stage.since ++ entry ∷ [] }
 phase_after _ entry stage = record stage { since = stage.since ++ entry ∷ [] }
 
--- where the changes of epochs stand after these entries
+-- the phase after these entries
 abbrev pub phase_in : List Entry → Phase
 phase_in entries =
     fold (λ so_far entry. phase_after entry.body entry so_far)
     (record { finishes = 0; brought = []; before = []; since = [] }) entries
 
--- where they stand in a ledger
+-- the phase of a ledger
 abbrev pub phase : Log → Phase
 phase log = phase_in log.entries
 
@@ -59,7 +59,7 @@ phase log = phase_in log.entries
 abbrev pub reading : Log → ℕ
 reading log = log.first + (phase log).finishes
 
--- whether the epoch is changing: it began to more often than it was changed
+-- whether the epoch is changing: more changes were begun than finished
 abbrev pub is_moving : Log → Bool
 is_moving log = nat_lt (phase log).finishes (length (phase log).brought)
 
@@ -67,8 +67,8 @@ is_moving log = nat_lt (phase log).finishes (length (phase log).brought)
 abbrev pub writing : Log → ℕ
 writing log = reading log + cond (is_moving log) 1 0
 
--- the node of each shard of an epoch's committee: those of the start, and from the k-th Begin for
--- the epoch that is k later
+-- the node of each shard of an epoch's committee: those of the start, or those that the k-th Begin
+-- brought for the epoch that is k later
 abbrev pub owners_at : Log → ℕ → List ℕ
 owners_at log epoch = slice_index_or (log.owners ∷ (phase log).brought) (epoch - log.first) []
 
@@ -98,7 +98,7 @@ abbrev pub is_begin : Body → Bool
 is_begin (Begin owners) = true
 is_begin _ = false
 
--- whether an entry ends one
+-- whether an entry ends a change of the epoch
 abbrev pub is_finish : Body → Bool
 is_finish Finish = true
 is_finish _ = false
@@ -129,7 +129,7 @@ history_after id history entry = record {
       (cond (is_fresh history entry.body) (entry ∷ []) (history.own ++ entry ∷ [])) history.own;
 }
 
--- what these entries make of an identifier
+-- the history of an identifier in these entries
 abbrev pub history_of : ℕ → List Entry → BlobId → History
 history_of first entries id = fold (history_after id) (record { epoch = first; own = [] }) entries
 
@@ -137,7 +137,7 @@ history_of first entries id = fold (history_after id) (record { epoch = first; o
 abbrev pub own_entries : Log → BlobId → List Entry
 own_entries log id = (history_of log.first log.entries id).own
 
--- the greatest `until` among them
+-- the greatest `until` among an identifier's own entries
 abbrev pub until_of : Log → BlobId → ℕ
 until_of log id = until_among (own_entries log id)
 
@@ -161,8 +161,8 @@ abbrev pub is_signer_among : List ℕ → List Entry → Kind → ℕ → ℕ �
 is_signer_among owners entries kind epoch shard =
     list_any (λ entry. nat_eq entry.epoch epoch && signs_for owners kind shard entry.body) entries
 
--- the shards whose node has one among an identifier's own entries, as a set: by the owners of that
--- epoch
+-- the shards whose node has such an entry among an identifier's own, as a set, by the owners of
+-- that epoch
 abbrev pub signers : Log → BlobId → Kind → ℕ → (ℕ → Bool)
 signers log id kind epoch = is_signer_among (owners_at log epoch) (own_entries log id) kind epoch
 
@@ -170,11 +170,11 @@ signers log id kind epoch = is_signer_among (owners_at log epoch) (own_entries l
 abbrev pub acknowledgers : Log → BlobId → ℕ → (ℕ → Bool)
 acknowledgers log id epoch = signers log id Holds epoch
 
--- how many shards of the committee they are
+-- how many shards of the committee signed
 abbrev pub signer_count : Log → BlobId → Kind → ℕ → ℕ
 signer_count log id kind epoch = count_below (committee_size log.f) (signers log id kind epoch)
 
--- in some epoch they are a quorum
+-- in some epoch the signers are a quorum
 abbrev pub HasQuorum : Log → BlobId → Kind → Type 0
 HasQuorum log id kind = (epoch : ℕ) × (quorum_size log.f ≤ signer_count log id kind epoch)
 
@@ -206,8 +206,8 @@ abbrev pub readies : List ℕ → ℕ → Body → Bool
 readies owners shard (Ready signer) = same_node owners signer shard
 readies owners shard _ = false
 
--- the shards of the next committee whose node has said so since the last Begin, as a set, and how
--- many they are
+-- the shards of the next committee whose node has said since the last Begin that it is ready, as a
+-- set
 abbrev pub ready_shards : Log → (ℕ → Bool)
 ready_shards log shard =
     list_any (λ entry. readies (owners_of Next log) shard entry.body) (phase log).since
@@ -216,16 +216,16 @@ ready_shards log shard =
 abbrev pub ready_total : Log → ℕ
 ready_total log = count_below (committee_size log.f) (ready_shards log)
 
--- the identifiers that were ever registered, ascending, each once
+-- identifiers with the one that an entry registers, if it does, ascending, each once
 abbrev pub with_registered : List BlobId → Body → List BlobId
 with_registered ids (Register id until) = insert_key id_cmp ids id
 with_registered ids _ = ids
 
--- all identifiers that these entries register
+-- all identifiers that these entries register, ascending, each once
 abbrev pub registered : List Entry → List BlobId
 registered entries = fold (λ ids entry. with_registered ids entry.body) [] entries
 
--- the live ones
+-- the live identifiers of a ledger
 abbrev pub live_ids : Log → List BlobId
 live_ids log = filter (is_live log) (registered log.entries)
 
@@ -239,6 +239,6 @@ pub record LedgerState : Type 0 where
   pub log : Log
   pub spare : ℕ
 
--- after one more entry, one less fits
+-- the ledger after one more entry: one fewer fits
 abbrev pub takes_in : LedgerState → Body → LedgerState
 takes_in ledger body = record { log = entered ledger.log body; spare = ledger.spare - 1 }

@@ -7,10 +7,10 @@ abbrev pub count_below : ℕ → (ℕ → Bool) → ℕ
 count_below zero passes = 0
 count_below (suc n) passes = count_below n passes + cond (passes n) 1 0
 
--- the shards of a committee of which at most f are faulty
+-- the number of shards of a committee of which at most f are faulty
 abbrev pub committee_size : ℕ → ℕ
 committee_size f = shard_count f
 
--- a quorum, of which more than half of the correct shards are part
+-- the size of a quorum, which contains more than half of the correct shards
 abbrev pub quorum_size : ℕ → ℕ
 quorum_size f = 2 * f + 1

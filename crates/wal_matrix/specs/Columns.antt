@@ -4,8 +4,8 @@ use Rattle.std.specs.List.{flat_map, range_with_len}
 use Rattle.wal_shape.specs.Shape.{row_count, column_count}
 use Rattle.wal_matrix.specs.Matrix.{column_part}
 
--- a row of a block of `width` columns of `rows` symbols: the symbol of that row of each of the
--- `given` columns, and zeros for those that were not given
+-- a row of a block of `width` columns of `rows` symbols: the symbol in that row of each of the
+-- `given` columns, and zeros for the columns that were not given
 unfoldable pub row_of_columns : ℕ → ℕ → ℕ → List ℕ → ℕ → ℕ → List ℕ
 row_of_columns rows width size columns given row =
     column_part rows size columns given row ++ replicate ((width - given) * size) 0

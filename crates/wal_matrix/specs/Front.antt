@@ -1,4 +1,4 @@
--- What is kept of a blob's extended matrix where its columns are made a few at a time.
+-- What is kept of a blob's extended matrix when its columns are made a few at a time.
 use Rattle.std.specs.Prelude.{◌≡◌, ℕ, ◌+◌, ◌*◌, ◌<◌, List, length}
 use Rattle.wal_shape.specs.Shape.{BlobShape, shard_count, row_count, column_count, symbol_size}
 use Rattle.wal_matrix.specs.Matrix.{symbol, IsExtended}
@@ -15,7 +15,7 @@ pub record FrontState : Type 0 where
   pub shape : BlobShape
   pub kept : List ℕ
 
--- it is that of these bytes
+-- the front is that of these bytes
 pub record IsFrontOf (bytes : List ℕ) (front : FrontState) : Type 0 where
   pub long : length bytes ≡ front.shape.length
   pub kept : AreRedundant front.shape.f

@@ -10,7 +10,7 @@ use Rattle.wal_shape.specs.declared.axis.Axis.{Axis}
 use Rattle.wal_shape.specs.declared.axis.Axis.TheVariants.{Primary, Secondary}
 use Rattle.wal_shape.specs.Shape.{BlobShape, shard_count, row_count, column_count, symbol_size}
 
--- the symbol at this row and column, of n columns
+-- the symbol in this row and column of a matrix of n columns
 unfoldable pub symbol : ℕ → ℕ → List ℕ → ℕ → ℕ → List ℕ
 symbol n cell_size block row column =
     take cell_size (drop ((row * n + column) * cell_size) block)
@@ -22,8 +22,8 @@ padded f bytes =
     ++ replicate (row_count f * column_count f * symbol_size f (length bytes) - length bytes) 0
 
 -- all rows and columns of the matrix are codewords: at each place of a word within the symbols, the
--- words of a row are a codeword of as many dimensions as the source block has columns, and those of
--- a column one of as many as it has rows
+-- words of a row are a codeword whose dimension is the number of the source block's columns, and
+-- those of a column are one whose dimension is the number of its rows
 pub record IsCodedMatrix (f cell_size : ℕ) (extended : List ℕ) : Type 0 where
   pub size : length extended ≡ shard_count f * shard_count f * cell_size
   pub fits : (i : ℕ) → i < length extended → slice_index extended i < 256
@@ -34,7 +34,7 @@ pub record IsCodedMatrix (f cell_size : ℕ) (extended : List ℕ) : Type 0 wher
       → IsCodeword (row_count f) (shard_count f)
       (λ row. word_at (symbol (shard_count f) cell_size extended row column) word)
 
--- and the matrix has the source block in its first rows and columns
+-- a coded matrix that has the source block in its first rows and columns
 pub record IsMatrixOf (f cell_size : ℕ) (block extended : List ℕ) : Type 0 where
   pub coded : IsCodedMatrix f cell_size extended
   pub source : (row column : ℕ) → row < row_count f → column < column_count f
@@ -78,15 +78,15 @@ abbrev pub sliver_of : Axis → ℕ → ℕ → List ℕ → ℕ → List ℕ
 sliver_of Primary f cell_size extended i = primary_of f cell_size extended i
 sliver_of Secondary f cell_size extended i = secondary_of f cell_size extended i
 
--- what a matrix is: its shape, and its bytes row by row
+-- an encoded blob: its shape, and the bytes of its matrix, row by row
 pub record EncodedBlob : Type 0 where
   pub shape : BlobShape
   pub cells : List ℕ
 
--- the bytes of one of its symbols
+-- the number of bytes of one of its symbols
 abbrev pub symbol_bytes : EncodedBlob → ℕ
 symbol_bytes encoded = symbol_size encoded.shape.f encoded.shape.length
 
--- its rows and columns
+-- the number of its rows, and of its columns
 abbrev pub shards : EncodedBlob → ℕ
 shards encoded = shard_count encoded.shape.f

@@ -3,8 +3,8 @@ use Rattle.std.specs.Prelude.{◌≡◌, ℕ, ◌<◌, List, take, drop}
 use Rattle.wal_shape.specs.Shape.{shard_count}
 use Rattle.wal_matrix.specs.Matrix.{symbol, IsExtended}
 
--- of each symbol of the bytes' extended matrix the strip holds `long` bytes from `from` on, row by
--- row
+-- the strip holds the `long` bytes from `from` on of each symbol of the bytes' extended matrix, row
+-- by row
 abbrev pub IsMatrixStrip : ℕ → ℕ → List ℕ → ℕ → ℕ → List ℕ → Type 0
 IsMatrixStrip f size bytes from long strip =
     (extended : List ℕ) → IsExtended f bytes extended → (row column : ℕ) → row < shard_count f

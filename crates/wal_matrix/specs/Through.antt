@@ -5,8 +5,8 @@ use Rattle.wal_kernel.specs.Region.{region}
 use Rattle.wal_shape.specs.Shape.{row_count, column_count}
 use Rattle.wal_matrix.specs.Matrix.{IsCodedMatrix, primary_of}
 
--- a matrix of codewords in both directions, and its rows at these indices begin with the
--- joined primary slivers
+-- a matrix of codewords in both directions, whose rows at these indices begin with the joined
+-- primary slivers
 pub record IsMatrixThrough (f size : ℕ) (indices joined extended : List ℕ) : Type 0 where
   pub coded : IsCodedMatrix f size extended
   pub begins : (k : ℕ) → k < length indices

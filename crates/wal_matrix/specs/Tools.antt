@@ -2,11 +2,11 @@
 use Rattle.std.specs.Prelude.{ℕ, ◌*◌, List}
 use Rattle.wal_shape.specs.Shape.{column_count, symbol_size, most_bytes}
 
--- the bytes of the longest symbol for f faults
+-- the number of bytes of the longest symbol for f faults
 abbrev pub longest_symbol : ℕ → ℕ
 longest_symbol f = symbol_size f most_bytes
 
--- the bytes of the longest sliver for f faults
+-- the number of bytes of the longest sliver for f faults
 abbrev pub longest_sliver : ℕ → ℕ
 longest_sliver f = column_count f * longest_symbol f
 

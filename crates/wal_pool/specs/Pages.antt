@@ -25,7 +25,7 @@ page_bytes pages number = bytes_in (slice_get pages number)
 abbrev pub IsTakenPage : List PageState → ℕ → Type 0
 IsTakenPage pages number = slice_get pages number ≡ Some (Taken (page_bytes pages number))
 
--- each page that is taken has so many bytes
+-- each page that is taken has `size` bytes
 abbrev pub AreWhole : ℕ → List PageState → Type 0
 AreWhole size pages = (k : ℕ) → IsTakenPage pages k → length (page_bytes pages k) ≡ size
 

@@ -6,11 +6,11 @@ use Rattle.wal_port.specs.declared.mem_sink.MemSink.{MemSink}
 abbrev pub sink_written : MemSink → List ℕ
 sink_written sink = sink.bytes.items
 
--- how many bytes it takes in all, at most
+-- the most bytes that it takes in all
 abbrev pub sink_room : MemSink → ℕ
 sink_room sink = sink.room
 
--- how many bytes it takes at a call, at most
+-- the most bytes that it takes in one call
 abbrev pub sink_piece : MemSink → ℕ
 sink_piece sink = sink.piece
 

@@ -6,7 +6,7 @@ use Rattle.wal_port.specs.declared.mem_source.MemSource.{MemSource}
 abbrev pub source_left : MemSource → List ℕ
 source_left source = drop source.given source.bytes.items
 
--- how many bytes it gives at a call, at most
+-- the most bytes that it gives in one call
 abbrev pub source_piece : MemSource → ℕ
 source_piece source = source.piece
 

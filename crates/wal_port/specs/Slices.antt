@@ -11,7 +11,7 @@ slice_left source = source.left.now
 abbrev pub slice_text : SliceSink → List ℕ
 slice_text sink = take sink.count sink.room.now ++ sink.beyond.bytes
 
--- what tells the sink from others, and stands before its text: the name of the reference to its
--- room, how many bytes have room, and which stood there first
+-- what distinguishes the sink from others, and stands before its text: the name of the reference to
+-- its room, how many bytes have room, and which bytes stood there first
 abbrev pub slice_mark : SliceSink → List ℕ
 slice_mark sink = sink.room.ghost_name ∷ length sink.room.now ∷ sink.first.bytes

@@ -1,4 +1,4 @@
--- What a step and a run leave no choice of: all but the two texts of a collision.
+-- What a step and a run determine: all but the two texts of a collision.
 use Rattle.std.specs.Prelude.{◌≡◌, ◌⊎◌, true, false, List, [], ◌∷◌, ◌++◌}
 use Rattle.wal_event.specs.declared.line.Line.{Line}
 use Rattle.wal_protocol.specs.State.{World}

@@ -17,7 +17,7 @@ use Rattle.wal_protocol.specs.declared.first.First.{First}
 use Rattle.wal_protocol.specs.State.{World, side_of, is_present, epoch_of, held, settled_in}
 use Rattle.wal_protocol.specs.Rules.{Rules}
 
--- what a correct shard keeps of a blob of which its node said so
+-- what a correct shard keeps of a blob about which its node made this claim
 abbrev pub backed : Kind → Parts → Bool
 backed Holds parts = settled parts
 backed Denies parts = has_proof parts
@@ -59,8 +59,8 @@ pub record Facts (rules : Rules) (world : World) : Type 0 where
       → among world.next.faulty shard ≡ false → MustHold world.log id
       → settled (held world.next shard id) ≡ true
   -- while each committee so far has had at most f faulty shards, so have these, and more than f
-  -- correct shards of the one that serves are settled for each blob that is certified, while the
-  -- epoch does not change, or was when it began to change, while it does
+  -- correct shards of the one that serves are settled for each blob that is certified or, while the
+  -- epoch changes, was certified when it began to change
   pub few_now : world.few ≡ true → length world.now.faulty ≤ world.log.f
   pub few_next : world.few ≡ true → is_moving world.log ≡ true
       → length world.next.faulty ≤ world.log.f

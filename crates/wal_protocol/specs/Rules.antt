@@ -1,5 +1,5 @@
 -- What the crates below say of frames, holdings and replies, as far as the steps of the world speak
--- of it.
+-- of them.
 use Rattle.std.specs.Prelude.{ℕ, Bool, List, Option}
 use Rattle.wal_shape.specs.declared.metadata.BlobId.{BlobId}
 use Rattle.wal_shape.specs.declared.axis.Axis.{Axis}
@@ -23,24 +23,23 @@ pub record Rules : Type 1 where
   -- bytes are a frame that may be put: a metadata, a sliver or a proof
   pub IsPutFrame : List ℕ → Frame → Type 0
   -- what a put of a frame to a shard answers, by the ledger, the shard's number, and what it holds
-  -- before and then
+  -- before and after
   pub Puts : Log → ℕ → Contents → Frame → PutAnswer → Contents → Type 0
   -- the identifier of a blob in a format, and the frames that an honest writer sends to each shard
   pub IsMessage : Format → List ℕ → BlobId → (ℕ → List Frame) → Type 0
   -- whether what a shard holds of the blob is what the frames that were sent to it bring
   pub has_message : List Frame → Parts → Bool
-  -- the payloads that a shard which holds these parts of a blob replies to a reader
+  -- the payloads with which a shard that holds these parts of a blob replies to a reader
   pub read_reply : BlobId → ℕ → Parts → List (List ℕ)
-  -- the payloads that it replies to a shard which recovers its sliver of an axis
+  -- the payloads with which it replies to a shard that recovers its sliver of an axis
   pub IsSymbolReply : BlobId → ℕ → Parts → Axis → ℕ → List (List ℕ) → Type 0
-  -- what a read of payloads comes to, with the evidence for bytes or a rejection
+  -- the result of a read of payloads, with the evidence for bytes or a rejection
   pub Reads : BlobId → List (List ℕ) → ReadWord → Option Evidence → Type 0
   -- two metadata of a blob among the payloads differ
   pub HasTwoMetadata : BlobId → List (List ℕ) → Type 0
   -- two metadata of a blob among the payloads and what a shard holds differ
   pub ContradictsHeld : BlobId → Parts → List (List ℕ) → Type 0
-  -- what the recovery of the sliver of an axis comes to for a shard, by what it holds before and
-  -- then
+  -- the result of a shard's recovery of its sliver of an axis, by what it holds before and after
   pub Recovers : BlobId → ℕ → Axis → Contents → List (List ℕ) → RecoverWord → Contents → Type 0
   -- what a first completed answer rests on: evidence for the blob with this verdict, or bytes with
   -- its identifier

@@ -1,4 +1,4 @@
--- What is safe of a run, whatever faulty shards and writers do.
+-- What makes a run safe, whatever faulty shards and writers do.
 use Rattle.std.specs.Prelude.{◌≡◌, ℕ, ◌+◌, ◌<◌, ◌≤◌, Bool, true, is_some, List, ◌∷◌, Some, All}
 use Rattle.std.specs.Prelude.{Contains}
 use Rattle.wal_shape.specs.declared.metadata.BlobId.{BlobId}
@@ -64,9 +64,9 @@ abbrev pub IsKept : World → Type 0
 IsKept world =
     world.few ≡ true → (id : BlobId) → IsCertified world.log id → world.log.f + 1 ≤ holders world id
 
--- the replies have the true reply of each correct shard of the home committee, besides any others,
--- in any order; the true reply is the frames that a correct shard then sends of what it holds
--- (`reply_payloads` in Step): its metadata, its primary sliver, its proof
+-- the replies include the true reply of each correct shard of the home committee, besides any
+-- others, in any order; the true reply is the frames that a correct shard then sends of what it
+-- holds (`reply_payloads` in Step): its metadata, its primary sliver, its proof
 abbrev pub Hears : World → BlobId → List Reply → Type 0
 Hears world id replies =
     let home = home_of world.log id in
@@ -143,14 +143,14 @@ HearsSecondary world id replies =
     × (is_some (held (side_of side world) shard id).secondary ≡ true)
     × Contains replies (reply.True side shard))
 
--- the line shows a sliver, or that it is badly encoded by the replies' symbols, or a collision
+-- the line shows a sliver, or that by the replies' symbols it is badly encoded, or a collision
 abbrev pub IsDecided : Line → Type 0
 IsDecided (line.Recover shard axis id (recovering.Sliver bytes)) = Unit {0}
 IsDecided (line.Recover shard axis id recovering.Inconsistent) = Unit {0}
 IsDecided (line.Collision left right) = Unit {0}
 IsDecided _ = ⊥
 
--- or that it is so by a proof
+-- or that it is badly encoded by a proof
 abbrev pub IsSettling : Line → Type 0
 IsSettling (line.Recover shard axis id recovering.Proof) = Unit {0}
 IsSettling said = IsDecided said

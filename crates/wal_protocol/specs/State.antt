@@ -50,7 +50,7 @@ abbrev pub with_side : Side → World → Committee → World
 with_side Now world committee = record world { now = committee }
 with_side Next world committee = record world { next = committee }
 
--- the next committee is there while the epoch changes
+-- whether the committee of a side is there: the next one is while the epoch changes
 abbrev pub is_present : Side → World → Bool
 is_present Now world = true
 is_present Next world = is_moving world.log
@@ -68,7 +68,7 @@ writing_side world = cond (is_moving world.log) Next Now
 abbrev pub is_correct : Side → World → ℕ → Bool
 is_correct side world shard = is_present side world && not (among (side_of side world).faulty shard)
 
--- what a shard holds, and what it holds of one blob
+-- what a shard holds
 abbrev pub contents_of : Committee → ℕ → Contents
 contents_of committee shard = slice_index_or committee.shards shard map.empty
 
@@ -81,7 +81,7 @@ unfoldable pub with_contents : Committee → ℕ → Contents → Committee
 with_contents committee shard contents =
     record committee { shards = slice_set committee.shards shard contents }
 
--- the world once a shard of a side does
+-- the world once a shard of a side holds this
 abbrev pub keeps : World → Side → ℕ → Contents → World
 keeps world side shard contents =
     with_side side world (with_contents (side_of side world) shard contents)
@@ -101,7 +101,7 @@ abbrev pub verdict_of : First → Verdict
 verdict_of (Judged evidence verdict) = verdict
 verdict_of (Written bytes) = Bytes bytes
 
--- the first completed answers once this one completed: a first one stays
+-- the first completed answers once this one completed: an earlier one stays
 abbrev pub answered : map.FinMap id_cmp First → BlobId → First → map.FinMap id_cmp First
 answered answers id answer =
     cond (map.contains_key answers id) answers (map.insert answers id answer)

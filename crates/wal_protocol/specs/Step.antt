@@ -84,7 +84,7 @@ is_clash (putting.OtherMetadata clash) = true
 is_clash _ = false
 
 -- puts of frames to shards of a committee, in order, up to the first that finds another metadata
--- held: whether one did
+-- held, and whether one did
 abbrev pub PutsEach : Rules → Log → Committee → List (ℕ × Frame) → Bool → Committee → Type 0
 PutsEach rules log committee [] clashed new = (clashed ≡ false) × (new ≡ committee)
 PutsEach rules log committee (letter ∷ more) clashed new =
@@ -108,12 +108,12 @@ stored_at rules world side message to id =
     && rules.has_message (message shard) (held (side_of side world) shard id))
     to)
 
--- a first completed answer, where there is one, gives this verdict
+-- the first completed answer, if there is one, gives this verdict
 abbrev pub AgreesWithFirst : finmap.FinMap id_cmp First → BlobId → Verdict → Type 0
 AgreesWithFirst answers id told =
     (answer : First) → finmap.get answers id ≡ Some answer → verdict_of answer ≡ told
 
--- there is a first completed answer, and it gives another one
+-- there is a first completed answer, and it gives another verdict
 abbrev pub Differs : finmap.FinMap id_cmp First → BlobId → Verdict → Type 0
 Differs answers id told =
     (answer : First) × (finmap.get answers id ≡ Some answer) × (verdict_of answer ≢ told)
@@ -128,7 +128,7 @@ pub record IsWrite (rules : Rules) (old : World) (blob to : List ℕ)
   pub puts : PutsEach rules old.log (side_of (writing_side old) old)
       (letters old (writing_side old) message to) clashed mid
 
--- it is done: its bytes are a completed answer
+-- the write is done: its bytes are a completed answer
 pub record WriteStep (rules : Rules) (old : World) (blob to : List ℕ)
     (id : BlobId) (count : ℕ) (new : World) : Type 0 where
   pub write : IsWrite rules old blob to id false
@@ -138,8 +138,8 @@ pub record WriteStep (rules : Rules) (old : World) (blob to : List ℕ)
   }
   pub counted : count ≡ stored_at rules new (writing_side old) write.message to id
 
--- it ends in a collision: a put found another metadata, or the first completed answer is another
--- one
+-- the write ends in a collision: a put found another metadata, or the first completed answer is
+-- another one
 pub record WriteCollides (rules : Rules) (old : World)
     (blob to : List ℕ) (new : World) : Type 0 where
   pub id : BlobId
@@ -153,13 +153,13 @@ abbrev pub IsIgnored : World → Side → ℕ → Type 0
 IsIgnored world side shard =
     (is_present side world ≡ true) × (among (side_of side world).faulty shard ≡ true)
 
--- what the put of the frame that these bytes are comes to
+-- the result of putting the frame that these bytes spell
 abbrev pub IsPut : Rules → World → Side → ℕ → List ℕ → PutAnswer → Frame → Contents → Type 0
 IsPut rules old side shard bytes answer frame contents =
     (is_correct side old shard ≡ true) × rules.IsPutFrame bytes frame
     × rules.Puts old.log shard (contents_of (side_of side old) shard) frame answer contents
 
--- it is refused
+-- the put is refused
 abbrev pub Refused : Rules → World → Side → ℕ → List ℕ → PutAnswer → World → Type 0
 Refused rules old side shard bytes answer new =
     (frame : Frame) × (contents : Contents) × IsPut rules old side shard bytes answer frame contents
@@ -185,7 +185,7 @@ SendStep rules old side shard bytes sending.Stored new =
     × IsPut rules old side shard bytes putting.Stored frame contents
     × (new ≡ keeps old side shard contents)
 
--- one that ends in a collision: another metadata of the identifier is held
+-- a put that ends in a collision: another metadata of the identifier is held
 abbrev pub SendCollides : Rules → World → Side → ℕ → List ℕ → World → Type 0
 SendCollides rules old side shard bytes new =
     (frame : Frame) × (contents : Contents) × (answer : PutAnswer) × (is_clash answer ≡ true)
@@ -197,15 +197,15 @@ NodeAll world owners shard P =
     (other : ℕ) → other < committee_size world.log.f
     → same_node owners shard other ≡ true → P other
 
--- the node of the shard may say so: the shard is faulty, or each shard of its node holds what backs
--- it
+-- the node of the shard may make the claim: the shard is faulty, or each shard of its node holds
+-- what backs it
 abbrev pub MayPost : World → Kind → ℕ → BlobId → Type 0
 MayPost world kind shard id =
     is_correct (writing_side world) world shard ≡ true
     → NodeAll world (owners_of Next world.log) shard
     (λ other. backs kind (held (side_of (writing_side world) world) other id) ≡ true)
 
--- the shard is correct, and some shard of its node does not
+-- the shard is correct, and some shard of its node does not hold what backs the claim
 abbrev pub Declines : World → Kind → ℕ → BlobId → Type 0
 Declines world kind shard id =
     (is_correct (writing_side world) world shard ≡ true)
@@ -213,13 +213,13 @@ Declines world kind shard id =
     × (same_node (owners_of Next world.log) shard other ≡ true)
     × (backs kind (held (side_of (writing_side world) world) other id) ≡ false)
 
--- it said so before
+-- the claim was made before
 abbrev pub SaidBefore : World → Kind → ℕ → BlobId → Type 0
 SaidBefore world kind shard id =
     IsOpen world.log id × MayPost world kind shard id
     × (signers world.log id kind (writing world.log) shard ≡ true)
 
--- it says so now, and so many shards are then of nodes that did
+-- the claim is made now, and so many shards then belong to nodes that made it
 pub record ClaimStep (old : World) (kind : Kind) (shard : ℕ)
     (id : BlobId) (count : ℕ) (new : World) : Type 0 where
   pub first_time : MayClaim old.log kind shard id
@@ -264,7 +264,7 @@ reply_payloads rules world id (reply.Bytes bytes) = bytes ∷ []
 abbrev pub read_payloads : Rules → World → BlobId → List Reply → List (List ℕ)
 read_payloads rules world id replies = flat_map (reply_payloads rules world id) replies
 
--- a read completes: it agrees with the first completed answer, or is it
+-- a read completes: it agrees with the first completed answer, or is the first
 pub record ReadCompletes (rules : Rules) (old : World) (id : BlobId) (replies : List Reply)
     (word : ReadWord) (told : Verdict) (new : World) : Type 0 where
   pub evidence : Evidence
@@ -290,7 +290,7 @@ told_by (reading_of.Bytes bytes) = Some (verdict.Bytes bytes)
 told_by reading_of.Reject = Some verdict.Reject
 told_by _ = None
 
--- one that ends in a collision: two metadata differ, or the verdict is not that of the first
+-- a read that ends in a collision: two metadata differ, or the verdict is not that of the first
 -- completed answer
 pub data ReadCollides (rules : Rules) (old : World)
     (id : BlobId) (replies : List Reply) : Type 0 where
@@ -328,14 +328,14 @@ pub record RecoveryRuns (rules : Rules) (old : World) (side : Side) (shard : ℕ
   pub recovers : rules.Recovers id shard axis
       (contents_of (side_of side old) shard) payloads word contents
 
--- and the shard keeps what it found
+-- the recovery runs, and the shard keeps what it found
 abbrev pub Gains : Rules → World → Side → ℕ → Axis → BlobId → List Reply → RecoverWord → World
     → Type 0
 Gains rules old side shard axis id replies word new =
     (contents : Contents) × RecoveryRuns rules old side shard axis id replies word contents
     × (new ≡ keeps old side shard contents)
 
--- or there is nothing to keep
+-- the recovery runs, and there is nothing to keep
 abbrev pub Lacks : Rules → World → Side → ℕ → Axis → BlobId → List Reply → RecoverWord → World
     → Type 0
 Lacks rules old side shard axis id replies word new =
@@ -362,7 +362,8 @@ RecoverStep rules old side shard axis id replies recovering.Inconsistent new =
 RecoverStep rules old side shard axis id replies recovering.Proof new =
     Gains rules old side shard axis id replies recovering.Proof new
 
--- one that ends in a collision: two metadata differ, among the replies and what the shard holds
+-- a recovery that ends in a collision: two metadata differ, among the replies and what the shard
+-- holds
 pub record RecoverCollides (rules : Rules) (old : World) (side : Side) (shard : ℕ)
     (axis : Axis) (id : BlobId) (replies : List Reply) : Type 0 where
   pub correct : is_correct side old shard ≡ true
@@ -382,12 +383,13 @@ ForgetStep old side shard id forgetting.Done new =
     (is_correct side old shard ≡ true) × MayForget old.log (contents_of (side_of side old) shard) id
     × (new ≡ keeps old side shard (without_slivers (contents_of (side_of side old) shard) id))
 
--- a shard is carried over where it stays, is correct on both sides and has the same node on both
+-- a shard is carried over if it stays, is correct on both sides and has the same node on both
 abbrev pub is_carried_over : World → List ℕ → List ℕ → List ℕ → ℕ → Bool
 is_carried_over world owners faulty stays shard =
     is_carried (owners_of Now world.log) world.now.faulty owners faulty stays shard
 
--- the next committee at its beginning: carried shards have what they hold, and all others nothing
+-- the next committee at its beginning: carried shards keep what they hold, and all others hold
+-- nothing
 abbrev pub next_committee : World → List ℕ → List ℕ → List ℕ → Committee
 next_committee world owners faulty stays = record {
   faulty = faulty;

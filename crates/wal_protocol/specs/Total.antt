@@ -1,6 +1,6 @@
--- What a step of the world needs of the crates below so that every event has one: their answers are
--- there, and what contradicts itself collides. Nothing here says how an answer is found, so 'there'
--- means that it is impossible that there is none.
+-- What a step of the world needs from the crates below so that every event has one: their answers
+-- are there, and what contradicts itself collides. Nothing here says how an answer is found, so
+-- 'there' means that it is impossible that there is none.
 use Rattle.std.specs.Prelude.{ℕ, ◌<◌, List, slice_index, All}
 use Rattle.wal_event.specs.declared.event.Event.{Event}
 use Rattle.wal_event.specs.declared.event.Event.TheVariants.{Write, Send, Read, Recover}
@@ -21,12 +21,12 @@ Possible P = (P → ⊥) → ⊥
 abbrev pub AreBytes : List ℕ → Type 0
 AreBytes text = (place : ℕ) → slice_index text place < 256
 
--- what a reply carries are bytes
+-- what a reply carries is bytes
 abbrev pub ReplyHasBytes : Reply → Type 0
 ReplyHasBytes (reply.True side shard) = Unit {0}
 ReplyHasBytes (reply.Bytes bytes) = AreBytes bytes
 
--- what an event carries are bytes, as all that a schedule spells
+-- what an event carries is bytes, as is all that a schedule spells
 abbrev pub HasBytes : Event → Type 0
 HasBytes (Write blob to) = AreBytes blob
 HasBytes (Send at shard bytes) = AreBytes bytes

@@ -20,7 +20,7 @@ same_axis Primary Primary = true
 same_axis Secondary Secondary = true
 same_axis _ _ = false
 
--- the opening that a frame carries, where it is one of this identifier, axis and index
+-- the opening that a frame carries, if it is one of this identifier, axis and index
 abbrev pub opening_for : List ℕ → Axis → ℕ → Result Frame FrameError → List single.Opening
 opening_for id axis index (Ok (Opening of_id along at opening)) =
     if pointwise nat_eq of_id id && (same_axis along axis && nat_eq at index) then opening ∷ []
@@ -32,7 +32,7 @@ abbrev pub openings_in : List ℕ → Axis → ℕ → List (List ℕ) → List 
 openings_in id axis index payloads =
     flat_map (λ payload. opening_for id axis index (read_of payload)) payloads
 
--- the opening that a frame carries, with its target, where it is one of this identifier
+-- the opening that a frame carries, with its target, if it is one of this identifier
 abbrev pub claim_for : List ℕ → Result Frame FrameError → List Claim
 claim_for id (Ok (Opening of_id along at shown)) =
     if pointwise nat_eq of_id id then (record { axis = along; index = at; opening = shown }) ∷ []
@@ -43,7 +43,7 @@ claim_for id _ = []
 abbrev pub claims_in : List ℕ → List (List ℕ) → List Claim
 claims_in id payloads = flat_map (λ payload. claim_for id (read_of payload)) payloads
 
--- the opening of a claim, where its target is the sliver of this axis and index
+-- the opening of a claim, if its target is the sliver of this axis and index
 abbrev pub opening_at : Axis → ℕ → Claim → List single.Opening
 opening_at axis index claim =
     if same_axis claim.axis axis && nat_eq claim.index index then claim.opening ∷ [] else []
@@ -52,7 +52,7 @@ opening_at axis index claim =
 abbrev pub NoneIn : {X : Type 0} → (List ℕ → X → Type 0) → List (List ℕ) → Type 0
 NoneIn {X} Carries payloads = All (λ payload. (x : X) → Carries payload x → ⊥) payloads
 
--- x is what the first payload carries that carries anything of this kind
+-- the first payload that carries anything of this kind carries x
 abbrev pub IsFirst : {X : Type 0} → (List ℕ → X → Type 0) → List (List ℕ) → X → Type 0
 IsFirst Carries payloads x =
     (front : List (List ℕ)) × (payload : List ℕ) × (back : List (List ℕ))
@@ -62,11 +62,11 @@ IsFirst Carries payloads x =
 abbrev pub CarriesProof : List ℕ → List ℕ → EncodingProof → Type 0
 CarriesProof id payload proof = read_of payload ≡ Ok (Proof id proof)
 
--- no payload carries one
+-- no payload carries a proof of this identifier
 abbrev pub NoProof : List ℕ → List (List ℕ) → Type 0
 NoProof id payloads = NoneIn (CarriesProof id) payloads
 
--- the proof is the first one that payloads carry
+-- the proof is the first that payloads carry
 abbrev pub IsFirstProof : List ℕ → List (List ℕ) → EncodingProof → Type 0
 IsFirstProof id payloads proof = IsFirst (CarriesProof id) payloads proof
 
@@ -76,11 +76,11 @@ abbrev pub CarriesBadProof : (List ℕ → List ℕ) → List ℕ → BlobMetada
 CarriesBadProof digest id metadata payload proof =
     CarriesProof id payload proof × IsBadProof digest metadata proof
 
--- no payload carries one
+-- no payload carries a proof that is bad for the metadata
 abbrev pub NoBadProof : (List ℕ → List ℕ) → List ℕ → BlobMetadata → List (List ℕ) → Type 0
 NoBadProof digest id metadata payloads = NoneIn (CarriesBadProof digest id metadata) payloads
 
--- the proof is the first one that payloads carry
+-- the proof is the first bad one that payloads carry
 abbrev pub IsFirstBadProof : (List ℕ → List ℕ) → List ℕ → BlobMetadata → List (List ℕ)
     → EncodingProof → Type 0
 IsFirstBadProof digest id metadata payloads proof =
@@ -93,13 +93,13 @@ CarriesHeldSliver digest id metadata axis index payload bytes =
     (read_of payload ≡ Ok (Sliver id axis index bytes))
     × HoldsSliver digest metadata axis index bytes
 
--- no payload carries one
+-- no payload carries a sliver that the metadata commits
 abbrev pub NoHeldSliver : (List ℕ → List ℕ) → List ℕ → BlobMetadata → Axis → ℕ → List (List ℕ)
     → Type 0
 NoHeldSliver digest id metadata axis index payloads =
     NoneIn (CarriesHeldSliver digest id metadata axis index) payloads
 
--- these are the bytes of the first one that payloads carry
+-- these are the bytes of the first such sliver that payloads carry
 abbrev pub IsFirstHeldSliver : (List ℕ → List ℕ) → List ℕ → BlobMetadata → Axis → ℕ → List (List ℕ)
     → List ℕ → Type 0
 IsFirstHeldSliver digest id metadata axis index payloads bytes =

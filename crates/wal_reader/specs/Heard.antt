@@ -31,7 +31,7 @@ pub data Sifts (id : List ℕ) : List (List ℕ) → List (List ℕ) → Type 0 
       → Sifts id parts payloads
       → Sifts id parts (payload ∷ payloads)
 
--- the first bad proof, where there is one
+-- the first bad proof, if there is one
 abbrev pub IsProofFound : (List ℕ → List ℕ) → List ℕ → BlobMetadata → List (List ℕ)
     → Option EncodingProof → Type 0
 IsProofFound digest id metadata payloads (Some proof) =
@@ -42,8 +42,8 @@ IsProofFound digest id metadata payloads None = NoBadProof digest id metadata pa
 abbrev pub IsEnough : Known → Type 0
 IsEnough known = length known.collected.indices.items ≡ row_count known.metadata.f
 
--- what is kept for a metadata: the first held slivers, and as long as they are too few, the first
--- bad proof
+-- what is kept for metadata: the first held slivers, and as long as they are too few, the first bad
+-- proof
 pub record HasParts (digest : List ℕ → List ℕ) (id : List ℕ)
     (known : Known) (payloads : List (List ℕ)) : Type 0 where
   pub f : known.work.f ≡ known.metadata.f
@@ -58,9 +58,9 @@ HasKnown digest id known payloads =
     IsMetadataIn digest id payloads known.metadata × HasParts digest id known payloads
     × IsFirstMetadata digest id payloads known.metadata
 
--- what is kept of payloads: the parts as long as there is no metadata; what is held for the one
--- that there is; or two texts of one digest, where there are two that differ: of the first one, and
--- the first that differs from it
+-- what is kept of payloads: the parts, as long as there is no metadata; what is held for the
+-- metadata, if there is one; or two texts of one digest, if two differ: those of the first one, and
+-- of the first that differs from it
 abbrev pub HasKept : (List ℕ → List ℕ) → List ℕ → Kept → List (List ℕ) → Type 0
 HasKept digest id (Waiting parts) payloads =
     ((metadata : BlobMetadata) → HasMetadata digest id payloads metadata → ⊥)

@@ -5,9 +5,9 @@ use Rattle.wal_frame.specs.Front.{IsPart, IsWrong}
 use Rattle.wal_frame.specs.Stream.{IsPayload, IsStream}
 use Rattle.wal_reader.specs.Heard.{HeardState, HasHeard}
 
--- what was heard of the payloads of whole envelopes, how many bytes were taken, where the envelope
--- begins that is not all there, its bytes, for how many there is room, and how many are missing of
--- one that is read past
+-- what was heard of the payloads of whole envelopes; how many bytes were taken; where the envelope
+-- begins that is not complete, its bytes, and how many there is room for; and how many bytes are
+-- missing of one that is read past
 pub record IntakeState : Type 0 where
   pub heard : HeardState
   pub taken : ℕ
@@ -35,7 +35,7 @@ pub record IsWrongAt (place : ℕ) (stream : List ℕ) : Type 0 where
 abbrev pub AreBytes : List ℕ → Type 0
 AreBytes bytes = All (λ byte. byte < 256) bytes
 
--- with any so many bytes more the part of an envelope is whole, and what was heard is as if its
+-- with any `missing` more bytes the part of an envelope is whole, and what was heard is as if its
 -- payload had been heard
 abbrev pub ReadsPast : (List ℕ → List ℕ) → List ℕ → HeardState → List (List ℕ) → ℕ → List ℕ → Type 0
 ReadsPast digest id heard payloads missing rest =

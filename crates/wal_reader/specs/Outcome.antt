@@ -1,4 +1,4 @@
--- What a read of recorded payloads comes to.
+-- The outcome of a read of recorded payloads.
 use Rattle.std.specs.Prelude.{◌≡◌, ◌≢◌, ◌⊎◌, ⊤, ℕ, ◌<◌, All, List, ◌∷◌, ◌++◌, length, map, Ok, Some}
 use Rattle.std.specs.Prelude.{None, Option, Any}
 use Rattle.std.specs.List.{flat_map}
@@ -24,7 +24,7 @@ use Rattle.wal_reader.specs.declared.outcome.Outcome.{Outcome}
 use Rattle.wal_reader.specs.declared.outcome.Outcome.TheVariants.{Bytes, Reject, Short, NoMetadata}
 use Rattle.wal_reader.specs.declared.outcome.Outcome.TheVariants.{Collision}
 
--- the payload is the frame of a metadata that id commits
+-- the payload is the frame of metadata that id commits
 abbrev pub CarriesMetadata : (List ℕ → List ℕ) → List ℕ → BlobMetadata → List ℕ → Type 0
 CarriesMetadata digest id metadata payload =
     (read_of payload ≡ Ok (Metadata metadata)) × Commits digest id metadata
@@ -51,7 +51,7 @@ IsFirstMetadata digest id payloads metadata =
     × (payloads ≡ front ++ payload ∷ back) × CarriesMetadata digest id metadata payload
     × ((other : BlobMetadata) → HasMetadata digest id front other → ⊥)
 
--- a payload carries this other one, and none before it carries any but the first
+-- a payload carries this other metadata, and none before it carries any but the first
 abbrev pub IsFirstOther : (List ℕ → List ℕ) → List ℕ → List (List ℕ) → BlobMetadata → BlobMetadata
     → Type 0
 IsFirstOther digest id payloads metadata other =
@@ -94,7 +94,7 @@ Decides digest id payloads verdict =
     × (length indices ≡ row_count metadata.f)
     × Judges digest metadata indices joined verdict
 
--- the payloads hold so many slivers of the metadata, fewer than the source block has rows
+-- the payloads hold `have` slivers of the metadata, fewer than the source block has rows
 abbrev pub HoldsFew : (List ℕ → List ℕ) → List ℕ → BlobMetadata → List (List ℕ) → ℕ → Type 0
 HoldsFew digest id metadata payloads have =
     (indices : List ℕ) × (joined : List ℕ) × Collects digest id metadata payloads indices joined
@@ -107,10 +107,10 @@ Refutes digest id payloads =
     × HoldsFew digest id metadata payloads have
     × (proof : EncodingProof) × IsFirstBadProof digest id metadata payloads proof
 
--- what a read comes to; of these cases one applies
+-- the outcome of a read; one of these cases applies
 abbrev pub IsOutcome : (List ℕ → List ℕ) → List ℕ → List (List ℕ) → Outcome → Type 0
 -- two metadata of the identifier differ, the first one and the first that differs from it, and two
--- texts collide, each digested for its own
+-- texts collide, one digested for each
 IsOutcome digest id payloads (Collision clash) =
     (one : BlobMetadata) × (other : BlobMetadata) × AreFirstTwo digest id payloads one other
     × IsCollision digest clash.left clash.right
@@ -130,8 +130,8 @@ IsOutcome digest id payloads (Short have need) =
     × (need ≡ row_count metadata.f)
     × NoBadProof digest id metadata payloads
 
--- the basis is the slivers that the payloads carry, or where fewer are held than are needed the
--- first proof that is bad
+-- the basis is the slivers that the payloads carry, or, if fewer are held than are needed, the
+-- first bad proof
 abbrev pub IsDrawnFrom : (List ℕ → List ℕ) → List ℕ → List (List ℕ) → BlobMetadata → Basis → Type 0
 IsDrawnFrom digest id payloads metadata (Slivers indices joined) =
     Collects digest id metadata payloads indices joined
@@ -148,7 +148,7 @@ IsEvidenceFor digest id payloads verdict evidence =
     × IsMetadataIn digest id payloads shown.metadata
     × IsDrawnFrom digest id payloads shown.metadata shown.basis
 
--- the evidence of an outcome, which is there exactly for a verdict
+-- the evidence for an outcome, which is there exactly if the outcome is a verdict
 abbrev pub HasEvidence : (List ℕ → List ℕ) → List ℕ → List (List ℕ) → Outcome → Option Evidence
     → Type 0
 HasEvidence digest id payloads (Bytes bytes) evidence =
@@ -171,7 +171,7 @@ HasEnough digest id metadata payloads =
     (indices : List ℕ) × Distinct indices × (length indices ≡ row_count metadata.f)
     × All (HasSliver digest id metadata payloads) indices
 
--- a verdict
+-- the outcome is a verdict
 abbrev pub IsVerdict : Outcome → Type 0
 IsVerdict (Bytes bytes) = ⊤
 IsVerdict Reject = ⊤
@@ -179,7 +179,7 @@ IsVerdict (Short have need) = ⊥
 IsVerdict NoMetadata = ⊥
 IsVerdict (Collision clash) = ⊥
 
--- one outcome; the texts of two collisions are not compared
+-- the outcomes are the same; the texts of two collisions are not compared
 abbrev pub SameOutcome : Outcome → Outcome → Type 0
 SameOutcome (Collision one) (Collision other) = Unit {0}
 SameOutcome one other = one ≡ other

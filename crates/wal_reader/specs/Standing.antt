@@ -21,7 +21,7 @@ pub record ReaderState : Type 0 where
 abbrev pub StandsFor : (List ℕ → List ℕ) → List ℕ → ReaderState → List ℕ → Type 0
 StandsFor digest id reader stream = (reader.failed ≡ None) × StandsAt digest id reader.intake stream
 
--- no piece was refused, and nothing but a metadata can matter
+-- no piece was refused, and nothing but a second metadata can matter
 abbrev pub IsSettledReader : ReaderState → Type 0
 IsSettledReader reader = (reader.failed ≡ None) × IsSettledState reader.intake.heard
 
@@ -30,8 +30,8 @@ abbrev pub fault_of : Result (Unit {0}) FeedError → Option FeedError
 fault_of (Ok done) = None
 fault_of (Err fault) = Some fault
 
--- what comes of a piece that makes this stream: the reader stands for it, and it is right so far;
--- or its cause is there
+-- the result of feeding a piece that makes this stream: the reader stands for the stream, which is
+-- right so far; or the cause of the error is there
 abbrev pub Feeds : (List ℕ → List ℕ) → List ℕ → ReaderState → List ℕ → Result (Unit {0}) FeedError
     → Type 0
 Feeds digest id new stream (Ok done) =
@@ -48,7 +48,7 @@ finish_error (feed.Malformed place) = finish.Malformed place
 finish_error feed.TooLong = finish.TooLong
 finish_error feed.Memory = finish.Memory
 
--- it is the answer of a read of the payloads of the whole stream
+-- the answer is that of a read of the payloads of the whole stream
 pub record IsStreamRead (digest : List ℕ → List ℕ)
     (id stream : List ℕ) (answer : ReadAnswer) : Type 0 where
   pub payloads : List (List ℕ)
@@ -57,8 +57,8 @@ pub record IsStreamRead (digest : List ℕ → List ℕ)
   pub enough : (metadata : BlobMetadata) → IsMetadataIn digest id payloads metadata
       → HasEnough digest id metadata payloads → IsVerdict answer.outcome
 
--- what comes of the whole stream: an answer, or the place where it is cut, or memory ran out, where
--- it is not cut
+-- the result for the whole stream: an answer, or the place where it is malformed, or want of memory
+-- if it is not malformed
 abbrev pub FinishesStream : (List ℕ → List ℕ) → List ℕ → List ℕ → Result ReadAnswer FinishError
     → Type 0
 FinishesStream digest id stream (Ok answer) = IsStreamRead digest id stream answer

@@ -24,17 +24,18 @@ pub data Answers (digest : List ℕ → List ℕ)
     → List ℕ → Type 0 where
   -- the words ask for nothing, and nothing is taken
   usage : NoTask words → Keeps left after → Answers digest words left after 2 usage_text
-  -- the input has more bytes than the limit of the task's command, of which the limit and one are
-  -- taken
+  -- the input has more bytes than the limit of the task's command, of which one more than the limit
+  -- are taken
   too_long : (task : Task) → IsTask words task → IsTooLong (command_of digest task) left after
       → Answers digest words left after 9 too_long_text
-  -- the command's result for the input, which is taken whole, or of one that takes nothing
+  -- the command's result for the input, which is taken whole, or that of a command that takes
+  -- nothing
   done : (task : Task) → IsTask words task → (input : List ℕ)
       → IsTaken (command_of digest task) left after input
       → (status : ℕ) (text : List ℕ) → IsResult digest (command_of digest task) input status text
       → Answers digest words left after status text
 
--- the same, or what serving a shard comes to, whose answers are written while the input is taken
+-- the same, or the result of serving a shard, whose answers are written while the input is taken
 pub data Completes (digest : List ℕ → List ℕ)
     (words : List (List ℕ)) (left after : Option (List ℕ)) : ℕ
     → List ℕ → Type 0 where

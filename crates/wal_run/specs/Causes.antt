@@ -23,8 +23,8 @@ use Rattle.wal_run.specs.SameText.{IsPlaceOf, Place, SameText}
 use Rattle.wal_run.specs.Serving.{answering, at_start, serve_limit}
 use Rattle.wal_run.specs.Answers.{Answers, Completes, IsAnswered, too_long_text}
 
--- the words ask for a task, the input of its command was taken, and the whole text was written that
--- tells the cause
+-- the words ask for a task, the input of its command was taken, and the whole text that tells the
+-- cause was written
 pub record ShowsCause (digest : List ℕ → List ℕ) (words : List (List ℕ))
     (around : Around) (Cause : Command → List ℕ → List ℕ → Type 0) : Type 0 where
   pub asked : Task
@@ -45,8 +45,8 @@ pub record ServesUntil (digest : List ℕ → List ℕ)
       (at_start service) state around.left around.after
       around.SourceRose around.old around.new around.SinkRose end
 
--- what was to be written where the sink failed: the text of the answer, or what the command may
--- have been writing before it was known
+-- what was to be written when the sink failed: the text of the answer, or what the command may have
+-- been writing before it was known
 abbrev pub IsOwed : (List ℕ → List ℕ) → List (List ℕ) → Around → List ℕ → Type 0
 IsOwed digest words around text =
     ((status : ℕ) × Answers digest words around.left around.after status text)
@@ -72,7 +72,7 @@ pub data Causes (digest : List ℕ → List ℕ) (words : List (List ℕ)) (arou
   no_memory : ((service : Service) → IsTask words (Serve service)
       → TakesAtMost around.left around.after 0 × Keeps around.old around.new)
       → Causes digest words around 5
-  -- 6: the source failed, and nothing was written, but by serving the answers to the whole
+  -- 6: the source failed, and nothing was written but, when serving, the answers to the whole
   -- envelopes that were taken
   source_failed : around.SourceRose → (asked : Task) → IsTask words asked
       → TakesInput (command_of digest asked).grammar
@@ -81,7 +81,7 @@ pub data Causes (digest : List ℕ → List ℕ) (words : List (List ℕ)) (arou
       → Causes digest words around 6
   source_failed_serving : around.SourceRose → ServesUntil digest words around ReadFault
       → Causes digest words around 6
-  -- 7: the sink failed, and a front of the text was written
+  -- 7: the sink failed, and a prefix of the text was written
   sink_failed : around.SinkRose → (text : List ℕ) → IsOwed digest words around text
       → AppendsPart around.old around.new text → Causes digest words around 7
   sink_failed_serving : around.SinkRose → ServesUntil digest words around WriteFault
@@ -91,7 +91,7 @@ pub data Causes (digest : List ℕ → List ℕ) (words : List (List ℕ)) (arou
   unreadable : ShowsCause digest words around (IsUnreadable digest) → Causes digest words around 8
   unreadable_serving : (place : ℕ) → ServesUntil digest words around (Malformed place)
       → Causes digest words around 8
-  -- 9: the source has more than the limit, of which the limit and one byte were taken
+  -- 9: the source has more than the limit, of which one byte more than the limit was taken
   too_long : (asked : Task) → IsTask words asked
       → IsTooLong (command_of digest asked) around.left around.after
       → Appends around.old around.new too_long_text
@@ -118,10 +118,10 @@ HasOneAnswer digest words =
     → Completes digest words (Some input) later other given
     → (status ≡ other) × SameText place status text given
 
--- this status and text were told, or why they were not, and which front of the text was written
+-- this status and text were told, or why they were not, and which prefix of the text was written
 -- then
 pub data WasTold (place : Place) (expected : ℕ) (text : List ℕ) (around : Around) : ℕ → Type 0 where
-  -- they were, but that the two texts of a collision are not compared
+  -- they were, except that the two texts of a collision are not compared
   told : (given : List ℕ) → SameText place expected given text → Appends around.old around.new given
       → WasTold place expected text around expected
   -- 5: memory ran out
@@ -137,7 +137,7 @@ pub data WasTold (place : Place) (expected : ℕ) (text : List ℕ) (around : Ar
       → AppendsPart around.old around.new given
       → WasTold place expected text around 7
 
--- where the source tells its bytes, whatever answer the words and these have was told
+-- if the source tells its bytes, whatever answer the words and these have was told
 abbrev pub IsExact : (List ℕ → List ℕ) → List (List ℕ) → Around → ℕ → Type 0
 IsExact digest words around status =
     (place : Place) → IsPlaceOf words place → (input : List ℕ) → around.left ≡ Some input
@@ -151,7 +151,7 @@ abbrev pub IsUsage : List (List ℕ) → Around → ℕ → Type 0
 IsUsage words around status =
     NoTask words → (status ≡ 2) ⊎ ((status ≡ 5) ⊎ ((status ≡ 7) × around.SinkRose))
 
--- where neither count of faults rose, the whole answer was written, or memory ran out
+-- if neither count of faults rose, the whole answer was written, or memory ran out
 abbrev pub IsComplete : (List ℕ → List ℕ) → List (List ℕ) → Around → ℕ → Type 0
 IsComplete digest words around status =
     ¬ around.SourceRose → ¬ around.SinkRose → (status ≡ 5) ⊎ IsAnswered digest words around status

@@ -21,7 +21,7 @@ IsOwnSliver digest audit recorded axis bytes =
     (held_index recorded.metadata.format recorded.metadata.f axis audit.shard)
     recorded.payloads bytes
 
--- they carry none
+-- the payloads carry no such sliver
 abbrev pub HasNoSliver : (List ℕ → List ℕ) → Audit → Recorded → Axis → Type 0
 HasNoSliver digest audit recorded axis =
     NoHeldSliver digest audit.id.0 recorded.metadata axis
@@ -50,7 +50,7 @@ IsAnswerText digest audit metadata primary secondary count text =
 abbrev pub HasShard : Audit → Recorded → Type 0
 HasShard audit recorded = audit.shard < shard_count recorded.metadata.f
 
--- it is none
+-- the shard is none of the blob's, and the text says so
 abbrev pub LacksShard : Audit → Recorded → List ℕ → Type 0
 LacksShard audit recorded text =
     (shard_count recorded.metadata.f ≤ audit.shard) × (text ≡ codes "no shard\n")
@@ -67,7 +67,7 @@ abbrev pub challenging : (List ℕ → List ℕ) → Audit → Command
 challenging digest audit = record (bare 134217728 (envelopes_of audit.id)) {
   -- an envelope for each draw, in order
   Succeeds = λ recorded text. AnswersDraws digest audit recorded audit.count text;
-  -- there is no such shard, or no such sliver of it, of which the primary one is looked for first
+  -- there is no such shard, or it lacks a sliver, of which the primary one is looked for first
   Lacks = λ recorded text. LacksShard audit recorded text
       ⊎ ((HasShard audit recorded × HasNoSliver digest audit recorded Primary
       × (text ≡ codes "no primary\n"))

@@ -104,14 +104,14 @@ HasTwoMetadata digest nothing input left right = ⊥
 
 -- ---- a command
 
--- what a command is: its limit, the grammar of its input, and what an input comes to by each status
+-- what a command is: its limit, the grammar of its input, and the result of an input by each status
 pub record Command : Type 1 where
   -- the most bytes of its input
   pub limit : ℕ
   pub grammar : Grammar
-  -- 0: what it comes to
+  -- 0: the answer
   pub Succeeds : Content grammar → List ℕ → Type 0
-  -- 3: something recorded is false, as where a writer encoded wrongly, and this shows it
+  -- 3: something recorded is false, as when a writer encoded wrongly, and this shows it
   pub Rejects : Content grammar → List ℕ → Type 0
   -- 4: something is lacking, which the text names
   pub Lacks : Content grammar → List ℕ → Type 0
@@ -119,11 +119,11 @@ pub record Command : Type 1 where
   pub Misreads : Content grammar → List ℕ → Type 0
   -- 10: these two texts have one digest, and this stands before the line that tells them
   pub Collides : Content grammar → List ℕ → List ℕ → List ℕ → Type 0
-  -- 5: what may stand written when memory ran out, but for nothing: by `MayLeave` a front of
-  -- whatever the result is
+  -- 5: what, if anything, may stand written when memory ran out: by `MayLeave` a prefix of whatever
+  -- the result is
   pub Leaves : Content grammar → List ℕ → Type 0
   -- 7: what it may have been writing when the sink failed before the answer was known: by `MayOwe`
-  -- a front of it up to a collision
+  -- a prefix of the answer up to a collision
   pub Owes : Content grammar → List ℕ → Type 0
 
 -- the most bytes of an input that is a blob, and of a schedule
@@ -153,12 +153,12 @@ abbrev pub Spelled : (List ℕ → List ℕ) → (command : Command) → List �
 Spelled digest command input Is =
     (content : Content command.grammar) × Spells digest command.grammar input content × Is content
 
--- the input comes to an answer with this text
+-- the input has an answer with this text
 abbrev pub IsSuccess : (List ℕ → List ℕ) → Command → List ℕ → List ℕ → Type 0
 IsSuccess digest command input text =
     Spelled digest command input (λ content. command.Succeeds content text)
 
--- the input comes to a rejection with this text
+-- the input has a rejection with this text
 abbrev pub IsRejection : (List ℕ → List ℕ) → Command → List ℕ → List ℕ → Type 0
 IsRejection digest command input text =
     Spelled digest command input (λ content. command.Rejects content text)
@@ -170,13 +170,13 @@ IsLacking digest command input text =
     ⊎ Spelled digest command input (λ content. command.Lacks content text)
 
 -- the input is not spelled as the grammar says, or what it spells cannot be read, and this text
--- says where
+-- says so
 abbrev pub IsUnreadable : (List ℕ → List ℕ) → Command → List ℕ → List ℕ → Type 0
 IsUnreadable digest command input text =
     Misspells command.grammar input text
     ⊎ Spelled digest command input (λ content. command.Misreads content text)
 
--- two texts collide, and this stands before them: nothing where two metadata differ
+-- two texts collide, and this stands before them: nothing if two metadata differ
 abbrev pub ClashesBehind : (List ℕ → List ℕ) → List ℕ → List ℕ → Command → List ℕ → List ℕ → Type 0
 ClashesBehind digest left right command input front =
     (HasTwoMetadata digest command.grammar input left right × (front ≡ []))
@@ -204,24 +204,24 @@ pub data IsResult (digest : List ℕ → List ℕ) (command : Command) (input : 
       → IsClash digest left right command input text
       → IsResult digest command input 10 text
 
--- the text is a front of the other
+-- the text is a prefix of the other
 abbrev pub IsFrontOf : List ℕ → List ℕ → Type 0
 IsFrontOf text whole = (rest : List ℕ) × (whole ≡ text ++ rest)
 
--- the same up to a collision: where both texts end with one, behind the same front, its two texts
--- are not compared
+-- the same up to a collision: if both texts end with one, behind the same prefix, its two texts are
+-- not compared
 abbrev pub IsFrontUpToClash : Place → ℕ → List ℕ → List ℕ → Type 0
 IsFrontUpToClash place status text whole =
     IsFrontOf text whole ⊎ ((status ≡ 10) × SameFront place text whole)
 
--- what it may leave written, which is a front of the result
+-- what it may leave written, which is a prefix of the result
 abbrev pub MayLeave : (List ℕ → List ℕ) → Command → List ℕ → List ℕ → Type 0
 MayLeave digest command input text =
     Spelled digest command input (λ content. command.Leaves content text)
     × ((status : ℕ) (whole : List ℕ) → IsResult digest command input status whole
     → IsFrontOf text whole)
 
--- what it may have been writing, which is a front of the result up to a collision
+-- what it may have been writing, which is a prefix of the result up to a collision
 abbrev pub MayOwe : (List ℕ → List ℕ) → Command → List ℕ → List ℕ → Type 0
 MayOwe digest command input text =
     Spelled digest command input (λ content. command.Owes content text)
@@ -238,7 +238,7 @@ TakesInput envelopes = ⊤
 TakesInput (envelopes_of id) = ⊤
 TakesInput schedule = ⊤
 
--- all the bytes that the source has left, where it says which
+-- all the bytes that the source has left, if it says which
 abbrev pub IsAllOf : Option (List ℕ) → List ℕ → Type 0
 IsAllOf left input = IfSome left (λ given. input ≡ given)
 
@@ -261,11 +261,11 @@ TakenBy envelopes limit left after input = IsTakenWhole limit left after input
 TakenBy (envelopes_of id) limit left after input = IsTakenWhole limit left after input
 TakenBy schedule limit left after input = IsTakenWhole limit left after input
 
--- all of the source was taken, and it is this input
+-- this input was taken by the command: all of the source, or nothing
 abbrev pub IsTaken : Command → Option (List ℕ) → Option (List ℕ) → List ℕ → Type 0
 IsTaken command left after input = TakenBy command.grammar command.limit left after input
 
--- the source has more bytes than the limit, of which the limit and one were taken
+-- the source has more bytes than the limit, of which one more than the limit were taken
 pub record IsTooLong (command : Command) (left after : Option (List ℕ)) : Type 0 where
   pub takes : TakesInput command.grammar
   pub input : List ℕ

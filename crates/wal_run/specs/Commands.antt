@@ -22,7 +22,7 @@ use Rattle.wal_run.specs.Unbundling.{unbundling}
 use Rattle.wal_run.specs.Unpacking.{unpacking}
 use Rattle.wal_run.specs.Verifying.{verifying}
 
--- of one that takes its whole input at once
+-- the command of a task that takes its whole input at once
 abbrev pub whole_command : (List ℕ → List ℕ) → WholeTask → Command
 whole_command digest (Identify f format) = identifying digest f format
 whole_command digest (Encode f format) = encoding digest f format
@@ -37,7 +37,7 @@ whole_command digest (Challenge audit) = challenging digest audit
 whole_command digest (Verify audit) = verifying digest audit
 whole_command digest (Gateway capacity) = fetching digest capacity
 
--- of any: one that serves has no result for a whole input
+-- the command of any task: one that serves has no result for a whole input
 abbrev pub command_of : (List ℕ → List ℕ) → Task → Command
 command_of digest (Whole task) = whole_command digest task
 command_of digest (Read id) = reading digest id

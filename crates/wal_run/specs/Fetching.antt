@@ -22,7 +22,7 @@ found_text (Short have need) = short_text have need
 found_text NoMetadata = codes "no metadata\n"
 found_text (Collision clash) = collision_text clash.left clash.right
 
--- whether what was found are two texts of one digest
+-- whether what was found is two texts of one digest
 abbrev pub is_collision : Found → Bool
 is_collision (Range bytes) = false
 is_collision (OutOfRange length) = false
@@ -51,8 +51,8 @@ AnswersRequests digest capacity payloads answers =
     (kept : Cache) × AnswersAll digest (no_blobs capacity) (gets_in [] payloads) answers kept
     × GoOn answers
 
--- the first requests among them are, none of the answers is a collision, and these are the gets of
--- the others
+-- the first requests among them are answered so, none of the answers is a collision, and these are
+-- the gets of the others
 pub record AnswersFirst (digest : List ℕ → List ℕ) (capacity : ℕ)
     (payloads : List (List ℕ)) (answers : List GetAnswer) (rest : List Get) : Type 0 where
   pub first : List Get
@@ -61,7 +61,8 @@ pub record AnswersFirst (digest : List ℕ → List ℕ) (capacity : ℕ)
   pub answered : AnswersAll digest (no_blobs capacity) first answers kept
   pub others : GoOn answers
 
--- the first requests among them are, up to one whose answer is a collision in these texts
+-- the first requests among them are answered so, up to one whose answer is a collision of these
+-- texts
 pub record StopsAt (digest : List ℕ → List ℕ) (capacity : ℕ) (payloads : List (List ℕ))
     (answers : List GetAnswer) (clash : MetaClash) : Type 0 where
   pub first : List Get
@@ -84,11 +85,11 @@ fetching digest capacity = record (bare 134217728 envelopes) {
   Collides = λ payloads left right front. (answers : List GetAnswer) × (clash : MetaClash)
       × StopsAt digest capacity payloads answers clash
       × (left ≡ clash.left) × (right ≡ clash.right) × (front ≡ answers_text answers);
-  -- the whole lines of the first, none of which is a collision, where another request follows
+  -- the whole lines of the first answers, none of which is a collision, if another request follows
   Leaves = λ payloads text. (answers : List GetAnswer) × (get : Get) × (rest : List Get)
       × AnswersFirst digest capacity payloads answers (get ∷ rest)
       × (text ≡ answers_text answers);
-  -- the lines of the first, the last of which was being written
+  -- the lines of the first answers, the last of which was being written
   Owes = λ payloads text. (answers : List GetAnswer) × (rest : List Get)
       × AnswersFirst digest capacity payloads answers rest × (text ≡ answers_text answers);
 }

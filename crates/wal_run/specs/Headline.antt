@@ -36,12 +36,12 @@ pub record TakesSchedule (around : Around) (schedule : Schedule) : Type 0 where
 -- is certified, declares invalid only what is, and its reads complete
 pub record Headline (digest : List ℕ → List ℕ)
     (words : List (List ℕ)) (around : Around) (status : ℕ) : Type 0 where
-  -- where the source tells its bytes, the status is 0, 10 or 5, and the report is that of the
-  -- schedule that they spell
+  -- if the source tells its bytes, the status is 0, 10 or 5, and the report is that of the schedule
+  -- that they spell
   pub of_told : AsksToReplay words around → (schedule : Schedule) → TellsSchedule around schedule
       → (text : List ℕ) × IsReport digest schedule status text × Appends around.old around.new text
-  -- over any source, the program's own too, status 0 and 10 come of an input alone that spells a
-  -- schedule, of which the report is
+  -- over any source, also the program's own, status 0 and 10 tell that the input spells a schedule,
+  -- and that the report is of that schedule
   pub of_any : AsksToReplay words around → (status ≡ 0) ⊎ (status ≡ 10)
       → (schedule : Schedule) × TakesSchedule around schedule × (text : List ℕ)
       × IsReport digest schedule status text

@@ -9,7 +9,7 @@ use Rattle.wal_reader.specs.declared.outcome.Outcome.TheVariants.{Bytes, Reject}
 use Rattle.wal_run.specs.Command.{Command, bare, envelopes_of}
 use Rattle.wal_run.specs.Lines.{short_text}
 
--- what the payloads come to
+-- the result of reading the payloads
 abbrev pub reading : (List ℕ → List ℕ) → BlobId → Command
 reading digest id = record (bare 134217728 (envelopes_of id)) {
   -- the blob as it is
@@ -18,7 +18,7 @@ reading digest id = record (bare 134217728 (envelopes_of id)) {
   Rejects = λ recorded text. (evidence : Evidence) × IsOutcome digest id.0 recorded.payloads Reject
       × HasEvidence digest id.0 recorded.payloads Reject (Some evidence)
       × (text ≡ codes "reject\n");
-  -- held slivers: there are so many, and no bad proof
+  -- held slivers: there are only so many, and no bad proof
   Lacks = λ recorded text. (have : ℕ)
       × HoldsFew digest id.0 recorded.metadata recorded.payloads have
       × NoBadProof digest id.0 recorded.metadata recorded.payloads

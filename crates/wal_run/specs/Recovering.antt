@@ -23,7 +23,7 @@ TakesOpenings digest id axis index recorded taken =
     Takes digest recorded.metadata axis index (openings_in id.0 axis index recorded.payloads)
     (sliver_symbols axis recorded.metadata.f) taken
 
--- what the openings come to, each from the sender of the index
+-- the result of the openings; the sender of an envelope is the index
 abbrev pub recovering : (List ℕ → List ℕ) → BlobId → Axis → ℕ → Command
 recovering digest id axis index = record (bare 134217728 (envelopes_of id)) {
   -- the envelope of the sliver
@@ -36,7 +36,7 @@ recovering digest id axis index = record (bare 134217728 (envelopes_of id)) {
       × TakesOpenings digest id axis index recorded taken
       × IsBadProof digest recorded.metadata (proof_of axis index taken)
       × (text ≡ envelope index (frame_text (Proof id.0 (proof_of axis index taken))));
-  -- held openings of distinct crosses: there are so many
+  -- held openings of distinct crosses: there are only so many
   Lacks = λ recorded text. (taken : List Opening)
       × TakesOpenings digest id axis index recorded taken
       × (length taken < sliver_symbols axis recorded.metadata.f)

@@ -10,8 +10,8 @@ use Rattle.wal_theorem.specs.Lines.{AreLines, AreFirstLines, IsUnfinished}
 use Rattle.wal_run.specs.Command.{Command, bare, schedule, most_input}
 use Rattle.wal_run.specs.Lines.{collision_text}
 
--- THE REPORT of a schedule, by the status: the text of the lines of a run of it that is safe
--- (`AreLines` says what is safe of it)
+-- THE REPORT of a schedule, by the status: the text of the lines of a safe run (`AreLines` says
+-- what is safe about it)
 pub data IsReport (digest : List ℕ → List ℕ) (planned : Schedule) : ℕ → List ℕ → Type 0 where
   -- 0: of all its events, none of whose lines is a collision
   whole : (lines : List Line) → AreLines digest planned lines → GoesOn lines

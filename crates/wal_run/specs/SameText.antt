@@ -1,4 +1,4 @@
--- One text, but for two texts of one digest with which it ends.
+-- Texts that are the same, but for two texts of one digest at the end.
 use Rattle.std.specs.Prelude.{◌≡◌, ◌⊎◌, ℕ, List, [], ◌∷◌, ◌++◌}
 use Rattle.wal_shape.specs.declared.text.MetaClash.{MetaClash}
 use Rattle.wal_serve.specs.Reply.{clash_text}
@@ -26,12 +26,13 @@ place_of (Whole task) = line
 place_of (Read id) = line
 place_of (Sample number) = line
 
--- this is where the task of these words tells them; where they ask for none, which tells no such
--- texts, any place is
+-- this is where the task of these words tells them; if they ask for none, no such texts are told,
+-- and any place will do
 abbrev pub IsPlaceOf : List (List ℕ) → Place → Type 0
 IsPlaceOf words place = (asked : Task) → IsTask words asked → place ≡ place_of asked
 
--- both end with two texts of one digest, told at this place, and what stands before them is one
+-- both end with two texts of one digest, told at this place, and what stands before them is the
+-- same
 pub record SameFront (place : Place) (text given : List ℕ) : Type 0 where
   pub front : List ℕ
   pub clash : MetaClash
@@ -39,6 +40,6 @@ pub record SameFront (place : Place) (text given : List ℕ) : Type 0 where
   pub ends : text ≡ front ++ told_at place clash
   pub ends_too : given ≡ front ++ told_at place other
 
--- one text; at status 10 the two texts of the collision with which it ends are not compared
+-- the same text; at status 10 the two texts of the collision with which it ends are not compared
 abbrev pub SameText : Place → ℕ → List ℕ → List ℕ → Type 0
 SameText place status text given = (text ≡ given) ⊎ ((status ≡ 10) × SameFront place text given)

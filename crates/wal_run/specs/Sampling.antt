@@ -1,4 +1,4 @@
--- The command on the sample schedule of a number.
+-- The command that runs the sample schedule of a number.
 use Rattle.std.specs.Prelude.{◌≡◌, ℕ, List, [], ◌++◌, codes}
 use Rattle.wal_event.specs.declared.event.Schedule.{Schedule}
 use Rattle.wal_schedule.specs.Sample.{IsSample}
@@ -19,7 +19,7 @@ summary_text summary =
     ++ number_text (codes "recovered ") summary.recovered
     ++ number_text (codes "least holders ") summary.least_holders
 
--- the run of the sample schedule of a number comes to this
+-- the run of the sample schedule of a number has this result
 abbrev pub SumsUp : (List ℕ → List ℕ) → ℕ → Summed → Type 0
 SumsUp digest number sum =
     (schedule : Schedule) × IsSample digest number schedule × IsSummed digest schedule sum

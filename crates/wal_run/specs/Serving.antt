@@ -33,7 +33,7 @@ at_start service = record {
   };
 }
 
--- what is answered to each payload, over a pool of pages, which never wants memory
+-- the answer to each payload, over a pool of pages, which never wants memory
 abbrev pub answering : (List ℕ → List ℕ) → Table ServedState
 answering digest = requests.AnswersRequest digest false
 
@@ -50,8 +50,8 @@ end_status (Malformed place) = 8
 end_status TooLong = 9
 end_status (Collision clash) = 10
 
--- the status and the text where no fault ended serving: the answers to the whole envelopes of what
--- was taken, which were steps of the world
+-- the status and the text if no fault ended serving: the answers to the whole envelopes of what was
+-- taken, which were steps of the world
 abbrev pub IsServiceResult : (List ℕ → List ℕ) → Service → List ℕ → Type 0 → ℕ → List ℕ → Type 0
 IsServiceResult digest service taken AtEnd status text =
     (frames : List (List ℕ)) × (state : ServedState) × (end : ServeEnd)

@@ -12,7 +12,7 @@ abbrev pub unbundling : (List ℕ → List ℕ) → BlobId → ℕ → Command
 unbundling digest id k = record (bare 134217728 (envelopes_of id)) {
   -- the member as it is
   Succeeds = λ recorded text. IsMember digest id.0 k recorded.payloads (Member text);
-  -- the index is none
+  -- the index of the bundle is a bad one
   Rejects = λ recorded text. IsMember digest id.0 k recorded.payloads BadIndex
       × (text ≡ codes "bad index\n");
   -- a column that is needed, or a member of this number

@@ -27,7 +27,7 @@ abbrev pub part_line : BlobId → Part → ℕ → List ℕ
 part_line id part size =
     encode_lower id.0 ++ codes " " ++ part_word part ++ number_text (codes " ") size
 
--- the line of a part, where it is held
+-- the line of a part, if it is held
 abbrev pub part_text : BlobId → Part → Option (List ℕ) → List ℕ
 part_text id part None = []
 part_text id part (Some content) = part_line id part (length content)

@@ -17,13 +17,13 @@ verdict_text count (WrongCount k) =
 verdict_text count (Wrong draw) = number_text (codes "wrong ") draw
 verdict_text count Accepted = codes "accepted\n"
 
--- the openings of the identifier that the payloads carry, in order, come to this verdict
+-- the openings of the identifier that the payloads carry, in order, get this verdict
 abbrev pub ClaimsCome : (List ℕ → List ℕ) → Audit → Recorded → AnswerVerdict → Type 0
 ClaimsCome digest audit recorded verdict =
     AnswersComeTo digest recorded.metadata audit.beacon audit.shard
     audit.count (claims_in audit.id.0 recorded.payloads) verdict
 
--- what they come to
+-- the verdict on these openings
 abbrev pub verifying : (List ℕ → List ℕ) → Audit → Command
 verifying digest audit = record (bare 134217728 (envelopes_of audit.id)) {
   -- each answers its draw
@@ -33,8 +33,7 @@ verifying digest audit = record (bare 134217728 (envelopes_of audit.id)) {
   Rejects = λ recorded text. HasShard audit recorded × (draw : ℕ)
       × ClaimsCome digest audit recorded (Wrong draw)
       × (text ≡ number_text (codes "wrong ") draw);
-  -- there is no such shard, or there are so many openings, which is another number than that of the
-  -- draws
+  -- there is no such shard, or so many openings, which is not the number of the draws
   Lacks = λ recorded text. LacksShard audit recorded text
       ⊎ (HasShard audit recorded × (k : ℕ) × ClaimsCome digest audit recorded (WrongCount k)
       × (text ≡ verdict_text audit.count (WrongCount k)));

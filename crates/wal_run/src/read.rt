@@ -57,7 +57,7 @@ fn stream_answer<H: Hash32>(answer: Result<ReadAnswer, FinishError>) -> Result<A
     }
 }
 
-/// Writes what comes of the source's stream, of which the reader has heard nothing.
+/// Writes the result of reading the source's stream, of which the reader has heard nothing yet.
 fn read_with<H: Hash32, S: Source, K: Sink>(
     alloc: Global,
     mut reader: Reader<H>,

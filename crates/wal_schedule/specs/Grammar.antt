@@ -1,4 +1,4 @@
--- Schedules as JSON: which value is which schedule, and what is wrong with one that is none.
+-- Schedules as JSON: which value is which schedule, and what is wrong with a value that is none.
 use Rattle.std.specs.Prelude.{◌≡◌, ℕ, ◌+◌, ◌==◌, ◌&&◌, nat_le, nat_lt, cond, Bool, true, bytes_eq}
 use Rattle.std.specs.Prelude.{List, [], ◌∷◌, codes, Option, Some, None, is_some, Result, Ok, Err}
 use Rattle.std.specs.Prelude.{if◌then◌else◌, ⊤, IsUtf8}
@@ -55,13 +55,13 @@ replies_at value = do
   items ← items_at (codes "replies") value
   replies_of items
 
--- one node for each of n shards, and where the key is missing the shard's own number
+-- one node for each of n shards; if the key is missing, each shard's own number
 abbrev pub owners_at : ℕ → Data → Option (List ℕ)
 owners_at n value =
     if is_some (get (codes "owners") value) then list_at (codes "owners") value
     else Some (range_with_len 0 n)
 
--- how many keys more there are where this one is there
+-- 1 if the object has this key, else 0
 abbrev pub one_if_has : List ℕ → Data → ℕ
 one_if_has key value = cond (is_some (get key value)) 1 0
 
@@ -143,7 +143,7 @@ holders_of value = do
   id ← id_at value
   with_keys 2 value (Holders id)
 
--- the event of this name that an object spells: those of a change of epochs, and the questions
+-- the event of this name that an object spells, if it is one of a change of epochs or a question
 abbrev pub later_named : ℕ → Data → List ℕ → Option Event
 later_named n value name =
     if bytes_eq name (codes "begin") then begin_of n value
@@ -152,7 +152,7 @@ later_named n value name =
     else (if bytes_eq name (codes "certificate") then certificate_of value
     else (if bytes_eq name (codes "holders") then holders_of value else None))))
 
--- the same, of any name
+-- the same for any name
 abbrev pub event_named : ℕ → Data → List ℕ → Option Event
 event_named n value name =
     if bytes_eq name (codes "register") then register_of value
@@ -165,21 +165,21 @@ event_named n value name =
     else (if bytes_eq name (codes "forget") then forget_of value
     else later_named n value name)))))))
 
--- the event that a value is, where its numbers and lists are in range
+-- the event that a value is, if its numbers and lists are in range
 unfoldable pub event_of : ℕ → Data → Option Event
 event_of f value = do
   name ← text_at (codes "do") value
   event ← event_named (shard_count f) value name
   given (event_fits f event) event
 
--- an event before those of the rest, and the number of a value that is none
+-- an event put before those of the rest, or the number of a value that is no event
 abbrev pub joined : ℕ → Option Event → Result (List Event) ℕ → Result (List Event) ℕ
 joined number None rest = Err number
 joined number (Some event) (Ok es) = Ok (event ∷ es)
 joined number (Some event) (Err other) = Err other
 
 -- the events that values are, the first of which has this number, or the number of the first value
--- that is none
+-- that is no event
 abbrev pub events_of : ℕ → ℕ → Items → Result (List Event) ℕ
 events_of f number no_items = Ok []
 events_of f number (item value values) =
@@ -195,7 +195,7 @@ objects_at value = do
   items ← items_at (codes "events") value
   given (all_objects items) items
 
--- 1 or 2, and 1 where the key is missing
+-- 1 or 2; 1 if the key is missing
 abbrev pub format_number : Data → Option ℕ
 format_number value =
     if is_some (get (codes "format") value) then whole_at 2 (codes "format") value else Some 1
@@ -220,7 +220,7 @@ head_of value = do
       (record { f = f; epoch = epoch; format = format; owners = owners; faulty = faulty })
   with_keys (4 + one_if_has (codes "format") value + one_if_has (codes "owners") value) value head
 
--- a schedule of its head and its events
+-- the schedule with this head and these events
 abbrev pub schedule_with : Head → Result (List Event) ℕ → Result Schedule ScheduleError
 schedule_with head (Ok events) = Ok (record {
   f = head.f;
@@ -253,11 +253,11 @@ with_parts (Some parts) = with_events parts.0 parts.1
 unfoldable pub schedule_of : Data → Result Schedule ScheduleError
 schedule_of value = with_parts (parts_of value)
 
--- the value that a text is as JSON
+-- the value that a text spells as JSON
 abbrev pub HasValue : List ℕ → Data → Type 0
 HasValue text value = IsUtf8 text × (read text ≡ Some value)
 
--- what is read of a text, unless memory runs out
+-- what is read from a text, unless memory runs out
 abbrev pub IsRead : List ℕ → Result Schedule ScheduleError → Type 0
 IsRead text (Ok schedule) = (value : Data) × HasValue text value × (schedule_of value ≡ Ok schedule)
 IsRead text (Err NotJson) = (value : Data) → HasValue text value → ⊥

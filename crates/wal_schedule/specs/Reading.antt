@@ -12,13 +12,13 @@ use Rattle.wal_shape.specs.declared.axis.Side.{Side}
 use Rattle.wal_shape.specs.declared.axis.Side.TheVariants.{Now, Next}
 use Rattle.wal_shape.specs.declared.metadata.BlobId.{BlobId}
 
--- what f makes of the value, where there is one
+-- what f makes of the value, if there is one
 infixl 10 ◌>>=◌
 abbrev pub ◌>>=◌ : {A B : Type 0} → Option A → (A → Option B) → Option B
 None >>= f = None
 (Some value) >>= f = f value
 
--- the value, where it passes the test
+-- the value, if the test passes
 abbrev pub given : {A : Type 0} → Bool → A → Option A
 given test x = if test then Some x else None
 
@@ -31,7 +31,7 @@ keys_in (Some members) = members_len members
 abbrev pub key_count : Data → ℕ
 key_count value = keys_in (as_object value)
 
--- the value, where the object has this number of keys: as each of them was found, it has no others
+-- the value, if the object has this number of keys: as each of them was found, it has no others
 abbrev pub with_keys : {A : Type 0} → ℕ → Data → A → Option A
 with_keys count value x = given (key_count value == count) x
 
@@ -44,24 +44,24 @@ whole_of most value = do
 
 -- a whole number of at most `most` under a key
 abbrev pub whole_at : ℕ → List ℕ → Data → Option ℕ
-whole_at most key object = do
-  value ← get key object
+whole_at most key json = do
+  value ← get key json
   whole_of most value
 
 -- the number of a shard
 abbrev pub shard_at : Data → Option ℕ
-shard_at object = whole_at 65535 (codes "shard") object
+shard_at json = whole_at 65535 (codes "shard") json
 
 -- a text under a key
 abbrev pub text_at : List ℕ → Data → Option (List ℕ)
-text_at key object = do
-  value ← get key object
+text_at key json = do
+  value ← get key json
   as_str value
 
 -- bytes in hexadecimal digits of either case
 abbrev pub bytes_at : List ℕ → Data → Option (List ℕ)
-bytes_at key object = do
-  text ← text_at key object
+bytes_at key json = do
+  text ← text_at key json
   result_ok (decode_of text)
 
 -- an identifier of these bytes
@@ -70,25 +70,25 @@ to_id bytes = record { 0 = bytes }
 
 -- an identifier in 64 hexadecimal digits
 abbrev pub id_at : Data → Option BlobId
-id_at object = do
-  text ← text_at (codes "id") object
+id_at json = do
+  text ← text_at (codes "id") json
   bytes ← result_ok (decode_sized text 32)
   Some (to_id bytes)
 
 -- one of two things, each with its name
 abbrev pub either_at : {A : Type 0} → List ℕ → List ℕ → A → List ℕ → A → Data → Option A
-either_at key left one right other object = do
-  text ← text_at key object
+either_at key left one right other json = do
+  text ← text_at key json
   if bytes_eq text left then Some one else (if bytes_eq text right then Some other else None)
 
 -- a side, by its word
 abbrev pub side_at : Data → Option Side
-side_at object = either_at (codes "at") (codes "now") Now (codes "next") Next object
+side_at json = either_at (codes "at") (codes "now") Now (codes "next") Next json
 
 -- an axis, by its word
 abbrev pub axis_at : Data → Option Axis
-axis_at object =
-    either_at (codes "axis") (codes "primary") Primary (codes "secondary") Secondary object
+axis_at json =
+    either_at (codes "axis") (codes "primary") Primary (codes "secondary") Secondary json
 
 -- numbers of 16 bits, one after the other
 abbrev pub numbers_of : Items → Option (List ℕ)
@@ -100,12 +100,12 @@ numbers_of (item value values) = do
 
 -- a list under a key
 abbrev pub items_at : List ℕ → Data → Option Items
-items_at key object = do
-  value ← get key object
+items_at key json = do
+  value ← get key json
   as_array value
 
 -- a list of numbers of 16 bits under a key
 abbrev pub list_at : List ℕ → Data → Option (List ℕ)
-list_at key object = do
-  items ← items_at key object
+list_at key json = do
+  items ← items_at key json
   numbers_of items

@@ -1,5 +1,4 @@
--- The sample: a schedule of one handover, whose faulty shards and whose bytes are drawn from a
--- number.
+-- The sample: a schedule with one handover, whose faulty shards and blobs are drawn from a number.
 use Rattle.std.specs.Prelude.{◌≡◌, ℕ, zero, suc, ◌+◌, ◌*◌, ◌/◌, ◌%◌, ◌^◌, List, [], ◌∷◌, ◌++◌, map}
 use Rattle.std.specs.List.{AllByRecursion, range_with_len, flat_map, remove}
 use Rattle.wal_shape.specs.declared.axis.Axis.{Axis}
@@ -50,7 +49,7 @@ pub record AreBlobs (digest : List ℕ → List ℕ) (state count : ℕ)
 abbrev pub everyone : List ℕ
 everyone = range_with_len 0 7
 
--- all of them but one, each of which stands at the place of its number
+-- all of them but one; each stands at the place of its number
 abbrev pub everyone_but : ℕ → List ℕ
 everyone_but shard = remove everyone shard
 
@@ -68,7 +67,7 @@ stored_events blob =
 abbrev pub recovered_by : Axis → List SampleBlob → ℕ → List Event
 recovered_by axis blobs shard = map (λ blob. Recover Next shard axis blob.id truths) blobs
 
--- each of them does
+-- all shards of the next committee recover their slivers of this axis
 abbrev pub recovered_events : Axis → List SampleBlob → List Event
 recovered_events axis blobs = flat_map (recovered_by axis blobs) everyone
 

@@ -54,7 +54,7 @@ reply_data (reply.Bytes bytes) = object (member (codes "bytes") (bytes_data byte
 abbrev pub replies_data : List Reply → Data
 replies_data replies = array (items_of (map reply_data replies))
 
--- an event of this name that names a blob alone
+-- an event of this name about a blob, with these further members
 abbrev pub about : List ℕ → BlobId → Members → Data
 about name id more =
     object (member (codes "do") (string name) (member (codes "id") (id_data id) more))
@@ -115,7 +115,7 @@ abbrev pub HasReplyBytes : Reply → Type 0
 HasReplyBytes (reply.True side shard) = Unit
 HasReplyBytes (reply.Bytes bytes) = IsBytes bytes
 
--- the identifiers and the bytes of an event are such
+-- the identifiers of an event are such, and its bytes are bytes
 abbrev pub HasBytes : Event → Type 0
 HasBytes (Register id until) = IsId id
 HasBytes (Write blob to) = IsBytes blob

@@ -1,4 +1,4 @@
--- What a shard answers to a payload, and what is then: the table of requests.
+-- What a shard answers to a payload, and the state then: the table of requests.
 use Rattle.std.specs.Prelude.{◌≡◌, ℕ, Bool, List, [], ◌∷◌, ◌++◌, length, Option, None, Result, Ok}
 use Rattle.std.specs.Prelude.{Err}
 use Rattle.wal_shape.specs.declared.metadata.BlobId.{BlobId}
@@ -17,12 +17,12 @@ use Rattle.wal_serve.specs.State.{ServedState, with_ledger, holding, named}
 use Rattle.wal_serve.specs.Reply.{done, malformed, no_request, reply_text, outcome_text, clash_in}
 use Rattle.wal_serve.specs.Requests.{IsPutRequest, Registered, Vouched, Entered, Forgets}
 
--- one frame is answered
+-- the answer is one frame
 abbrev pub IsReplyOutcome : Result Reply MetaClash → List (List ℕ) → Option MetaClash → Type 0
 IsReplyOutcome outcome frames clash =
     (frames ≡ outcome_text outcome ∷ []) × (clash ≡ clash_in outcome)
 
--- these frames are answered, and then their number
+-- the answer is these frames, and then their number
 abbrev pub IsReplied : List (List ℕ) → List (List ℕ) → Option MetaClash → Type 0
 IsReplied payloads frames clash =
     (frames ≡ payloads ++ reply_text (done (length payloads)) ∷ []) × (clash ≡ None)
@@ -35,7 +35,7 @@ AnswersPut digest may_want frame old frames clash new =
     × IsPutRequest digest may_want old.shard old.ledger.log frame outcome contents
     × IsReplyOutcome outcome frames clash × (new ≡ holding old contents)
 
--- a request that the ledger answers, by what it makes of the ledger
+-- a request that the ledger answers, by what the request makes of the ledger
 abbrev pub AnswersEntry : (Reply → LedgerState → Type 0) → ServedState → List (List ℕ)
     → Option MetaClash → ServedState → Type 0
 AnswersEntry Makes old frames clash new =
@@ -51,8 +51,8 @@ AnswersForget id old frames clash new =
     × Forgets old.ledger.log old.shard.contents id reply contents
     × IsReplyOutcome (Ok reply) frames clash × (new ≡ holding old contents)
 
--- what is answered to each frame: the state before, the frames, the two texts where they end
--- serving, and the state after
+-- the answer to each frame: the state before, the frames, the two texts if they end serving, and
+-- the state after
 abbrev pub AnswersFrame : (List ℕ → List ℕ) → Bool → Frame → ServedState → List (List ℕ)
     → Option MetaClash → ServedState → Type 0
 AnswersFrame digest may_want (Metadata metadata) old frames clash new =
@@ -89,7 +89,7 @@ AnswersFrame digest may_want (Answer code first second) old frames clash new =
 AnswersFrame digest may_want (Clash left right) old frames clash new =
     IsReplyOutcome (Ok no_request) frames clash × (new ≡ old)
 
--- what is answered to what is read in a payload
+-- the answer to what is read in a payload
 abbrev pub AnswersRead : (List ℕ → List ℕ) → Bool → Result Frame FrameError → ServedState
     → List (List ℕ) → Option MetaClash → ServedState → Type 0
 AnswersRead digest may_want (Ok frame) old frames clash new =
@@ -97,8 +97,8 @@ AnswersRead digest may_want (Ok frame) old frames clash new =
 AnswersRead digest may_want (Err fault) old frames clash new =
     IsReplyOutcome (Ok (malformed fault)) frames clash × (new ≡ old)
 
--- what is answered to a payload; a keep that may want memory may say so in place of storing or of
--- having no room
+-- the answer to a payload; a keep that may want memory may say so instead of storing or of refusing
+-- for want of room
 abbrev pub AnswersRequest : (List ℕ → List ℕ) → Bool → ServedState → List ℕ → List (List ℕ)
     → Option MetaClash → ServedState → Type 0
 AnswersRequest digest may_want old payload frames clash new =

@@ -1,4 +1,4 @@
--- What serving leaves no choice of; the two texts of a collision are not compared.
+-- What serving determines; the two texts of a collision are not compared.
 use Rattle.std.specs.Prelude.{◌≡◌, ◌⊎◌, ℕ, Bool, true, false, List, [], ◌∷◌, ◌++◌, ⊤}
 use Rattle.wal_shape.specs.declared.text.MetaClash.{MetaClash}
 use Rattle.wal_serve.specs.declared.serving.ServeEnd.{ServeEnd}
@@ -24,7 +24,7 @@ abbrev pub SameEnd : ServeEnd → ServeEnd → Type 0
 SameEnd end other =
     (is_collision end ≡ is_collision other) × (is_collision end ≡ false → end ≡ other)
 
--- one way to serve: what was taken, how it ended, and what is then are the same; so are the
+-- one way to serve: what was taken, how it ended, and the state then are the same; so are the
 -- answers, but for the two texts in the last frame of a collision
 pub record SameServing {C : Type 0} (front given : List ℕ)
     (xs ys : List (List ℕ)) (new then : C) (end other : ServeEnd) : Type 0 where
@@ -34,7 +34,7 @@ pub record SameServing {C : Type 0} (front given : List ℕ)
   pub last : is_collision end ≡ true → SameButLast xs ys
   pub state : new ≡ then
 
--- these bytes of a source are served in one way, but for faults
+-- these bytes of a source are served in only one way, but for faults
 abbrev pub HasOneServing : {C : Type 0} → Table C → ℕ → ℕ → C → List ℕ → Type 0
 HasOneServing {C} Answer room limit fresh input =
     (taken rest given after : List ℕ) (frames others : List (List ℕ))
@@ -48,7 +48,7 @@ HasOneServing {C} Answer room limit fresh input =
 abbrev pub SameFrames : List (List ℕ) → List (List ℕ) → Type 0
 SameFrames xs ys = (xs ≡ ys) ⊎ SameButLast xs ys
 
--- bytes that were taken are answered in one way, by whatever serving ended
+-- bytes that were taken are answered in only one way, whatever ended serving
 abbrev pub AnswersOnce : {C : Type 0} → Table C → ℕ → ℕ → C → Type 0
 AnswersOnce {C} Answer room limit fresh =
     (taken : List ℕ) (frames others : List (List ℕ)) (state then : C) (end other : ServeEnd)

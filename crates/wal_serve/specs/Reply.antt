@@ -88,14 +88,14 @@ attest_reply attesting.Already = refused 12
 attest_reply (attesting.Counted count) = reply 13 count 0
 attest_reply (attesting.Invalid count) = reply 14 count 0
 
--- what the ledger's `register` answered, whose epoch isn't changing
+-- what the ledger's `register` answered while its epoch isn't changing
 abbrev pub IsRegisterReply : RegisterAnswer → Reply → Type 0
 IsRegisterReply (registering.Registered until) replied = replied ≡ done until
 IsRegisterReply registering.Past replied = replied ≡ refused 15
 IsRegisterReply registering.NoRoom replied = replied ≡ refused 10
 IsRegisterReply registering.MovingExtension replied = ⊥
 
--- a reply as a frame, and two texts of one digest as a frame
+-- a reply as a frame
 abbrev pub reply_text : Reply → List ℕ
 reply_text answer = frame_text (Answer answer.code answer.a answer.b)
 
@@ -103,12 +103,12 @@ reply_text answer = frame_text (Answer answer.code answer.a answer.b)
 abbrev pub clash_text : MetaClash → List ℕ
 clash_text clash = frame_text (Clash clash.left clash.right)
 
--- the one frame that is answered
+-- the one frame of the answer
 abbrev pub outcome_text : Result Reply MetaClash → List ℕ
 outcome_text (Ok answer) = reply_text answer
 outcome_text (Err clash) = clash_text clash
 
--- two texts of one digest end serving
+-- the two texts of one digest, which end serving, if there are any
 abbrev pub clash_in : Result Reply MetaClash → Option MetaClash
 clash_in (Ok answer) = None
 clash_in (Err clash) = Some clash

@@ -1,4 +1,4 @@
--- What the requests do that have one answer: what was before, the reply, and what is then.
+-- What requests with a single reply do: the state before, the reply, and the state then.
 use Rattle.std.specs.Prelude.{◌≡◌, ℕ, ◌<◌, Bool, List, Result, Ok, Err}
 use Rattle.wal_shape.specs.declared.metadata.BlobId.{BlobId}
 use Rattle.wal_shape.specs.declared.text.MetaClash.{MetaClash}
@@ -32,19 +32,19 @@ IsPutRequest digest may_want shard log frame outcome new =
     × (outcome ≡ put_reply answer)
     × ShowsTexts digest shard.contents frame answer
 
--- a registration is the ledger's
+-- a registration is answered by the ledger
 abbrev pub Registered : LedgerState → BlobId → ℕ → Reply → LedgerState → Type 0
 Registered old id until reply new =
     (answer : RegisterAnswer) × Registers old id until answer new × IsRegisterReply answer reply
 
--- that a shard holds a blob, or that a blob is badly encoded, is the ledger's
+-- that a shard holds a blob, or that a blob is badly encoded, is answered by the ledger
 abbrev pub ClaimEntered : Kind → LedgerState → ℕ → BlobId → Reply → LedgerState → Type 0
 ClaimEntered Holds old shard id reply new =
     (answer : AckAnswer) × Acks old shard id answer new × (reply ≡ ack_reply answer)
 ClaimEntered Denies old shard id reply new =
     (answer : AttestAnswer) × Attests old shard id answer new × (reply ≡ attest_reply answer)
 
--- the shard acknowledges or attests where what it holds backs that, and then the ledger is asked
+-- the shard acknowledges or attests if what it holds backs that, and then the ledger is asked
 pub data Vouched (kind : Kind) (old : ServedState) (id : BlobId) : Reply → LedgerState
     → Type 0 where
   unbacked : (why : AckRefusal) → Vouches kind old.ledger.log old.shard.contents id (Err why)
@@ -53,14 +53,14 @@ pub data Vouched (kind : Kind) (old : ServedState) (id : BlobId) : Reply → Led
       → Vouches kind old.ledger.log old.shard.contents id (Ok tt)
       → ClaimEntered kind old.ledger old.shard.index id reply new → Vouched kind old id reply new
 
--- an entry of a shard of the committee is the ledger's
+-- an entry of a shard of the committee is answered by the ledger
 pub data Entered (kind : Kind) (old : LedgerState) (shard : ℕ) (id : BlobId) : Reply → LedgerState
     → Type 0 where
   of_committee : (reply : Reply) (new : LedgerState) → shard < committee_size old.log.f
       → ClaimEntered kind old shard id reply new → Entered kind old shard id reply new
   of_none : (shard < committee_size old.log.f → ⊥) → Entered kind old shard id no_shard old
 
--- the slivers of a blob go where they may
+-- the slivers of a blob are dropped if they may be
 pub data Forgets (log : Log) (old : Contents) (id : BlobId) : Reply → Contents → Type 0 where
   forgotten : MayForget log old id → Forgets log old id (done 0) (without_slivers old id)
   kept : (MayForget log old id → ⊥) → Forgets log old id (refused 5) old

@@ -13,7 +13,7 @@ abbrev pub desk_room : ℕ → ℕ
 desk_room f = 38 + column_count f * (symbol_size f most_bytes + 327)
 
 -- the frames that must have room at a shard of a committee of f: a metadata, of whatever f; a
--- sliver that a metadata of f commits; and a proof that is bad for one
+-- sliver that a metadata of f commits; and a proof of bad encoding for one
 abbrev pub MayVerify : (List ℕ → List ℕ) → ℕ → Frame → Type 0
 MayVerify digest f (Metadata metadata) = ⊤
 MayVerify digest f (Sliver id axis index bytes) =

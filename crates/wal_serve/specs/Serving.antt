@@ -1,6 +1,6 @@
 -- What serving is: envelopes that are answered one after the other, and how it ends. `C` is the
 -- state of what serves, and `Answer` says what it answers to a payload: the state before, the
--- payload, the frames, the two texts where they end serving, the state after.
+-- payload, the frames, the two texts if they end serving, the state after.
 use Rattle.std.specs.Prelude.{◌≡◌, ℕ, ◌+◌, ◌<◌, ◌≤◌, List, [], ◌∷◌, ◌++◌, length, take, Option}
 use Rattle.std.specs.Prelude.{Some, None, IfSome, ⊤}
 use Rattle.std.specs.List.{Contains}
@@ -15,7 +15,7 @@ use Rattle.wal_serve.specs.declared.serving.ServeEnd.TheVariants.{Malformed, Too
 use Rattle.wal_serve.specs.Reply.{overlong, no_memory, reply_text, clash_text}
 use Rattle.wal_serve.specs.Saying.{sent}
 
--- what is answered to each payload
+-- the answer to each payload
 abbrev pub Table : Type 0 → Type 1
 Table C = C → List ℕ → List (List ℕ) → Option MetaClash → C → Type 0
 
@@ -39,7 +39,7 @@ pub data Served {C : Type 0} (Answer : Table C) (room : ℕ) (fresh : C) : List 
       → IsPayload payload → Replies Answer room mid payload some clash new
       → Served Answer room fresh (front ++ envelope sender payload) (frames ++ some) clash new
 
--- how serving ends, where at most `limit` bytes may be taken: at the end behind whole envelopes;
+-- how serving ends, if at most `limit` bytes may be taken: at the end behind whole envelopes;
 -- behind two texts of one digest, whose frame is the last; at a byte that begins no envelope; at
 -- the end in an envelope; at one byte more than the limit, all before it answered; at a read that
 -- fails; at a write that fails
@@ -72,8 +72,8 @@ pub data Serves {C : Type 0} (Answer : Table C) (room limit : ℕ) (fresh : C) (
       → length taken ≤ limit → SinkRose
       → Serves Answer room limit fresh taken AtEnd SourceRose SinkRose frames state WriteFault
 
--- serving ended at the answer whose write failed: the answers to all envelopes before were written
--- whole, and that to the last one of what was taken was written up to a place before its end
+-- serving ended at the answer whose write failed: the answers to all earlier envelopes were written
+-- whole, and that to the last one taken was written up to a place before its end
 pub record BreaksOff {C : Type 0} (Answer : Table C) (room own : ℕ) (fresh : C) (taken : List ℕ)
     (frames : List (List ℕ)) (state : C) (old new : Option (List ℕ)) : Type 0 where
   pub front : List ℕ
@@ -92,7 +92,7 @@ pub record BreaksOff {C : Type 0} (Answer : Table C) (room own : ℕ) (fresh : C
   pub short : count < length (sent own some)
   pub wrote : Appends old new (sent own before ++ take count (sent own some))
 
--- what was written: the whole text, or where a write failed what is then
+-- what was written: the whole text; or, if a write failed, what is true then
 abbrev pub Wrote : ServeEnd → Type 0 → Option (List ℕ) → Option (List ℕ) → List ℕ → Type 0
 Wrote WriteFault Failed old new text = Failed
 Wrote _ Failed old new text = Appends old new text
@@ -109,7 +109,7 @@ pub record IsServed {C : Type 0} (Answer : Table C) (room limit own : ℕ)
   pub wrote : Wrote end (BreaksOff Answer room own fresh taken frames state old new)
       old new (sent own frames)
 
--- whatever is taken, and however serving ends, no frame that is answered tells that there was no
+-- whatever is taken, and however serving ends, no frame of the answers tells that there was no
 -- memory
 abbrev pub NeverWants : {C : Type 0} → Table C → ℕ → ℕ → C → Type 0
 NeverWants {C} Answer room limit fresh =
@@ -117,13 +117,13 @@ NeverWants {C} Answer room limit fresh =
     → Serves Answer room limit fresh taken ⊤ ⊤ ⊤ frames state end
     → Contains frames (reply_text no_memory) → ⊥
 
--- where serving ended behind whole envelopes, or at a place where none begins, and the source told
--- its bytes, they are so
+-- if serving ended behind whole envelopes, the bytes are such; if it ended at a place where none
+-- begins, none begins there
 abbrev pub EndsAt : ServeEnd → List ℕ → Type 0
 EndsAt Done input = (payloads : List (List ℕ)) × IsStream payloads input
 EndsAt (Malformed place) input = IsMalformed place input
 EndsAt _ input = ⊤
 
--- where the source tells its bytes, serving ends where these end or break off
+-- if the source tells its bytes, serving ends where these end or break off
 abbrev pub EndsAtKnown : ServeEnd → Option (List ℕ) → Type 0
 EndsAtKnown end left = IfSome left (EndsAt end)

@@ -1,5 +1,5 @@
--- ANSWERS ARE LOCAL: what is answered to a request about an identifier rests on what was given
--- about that identifier alone.
+-- ANSWERS ARE LOCAL: the answer to a request about an identifier rests only on what was given about
+-- that identifier.
 use Rattle.std.specs.Prelude.{◌≡◌, ◌≢◌, ℕ, ◌+◌, ◌<◌, ◌≤◌, ◌^◌, Bool, true, false, cond, ◌&&◌, ◌||◌}
 use Rattle.std.specs.Prelude.{nat_eq, List, [], ◌∷◌, ◌++◌, length, fold, filter, sum_by, Option}
 use Rattle.std.specs.Prelude.{Some, None, IfSome, unwrap_or, Result, Ok, Err, All}
@@ -37,8 +37,8 @@ use Rattle.wal_served.specs.Steps.{TellsWant}
 
 -- ---- what a request is about
 
--- the identifier that a frame is about: of a metadata its own, of what names one that one, and of
--- an answer none
+-- the identifier that a frame is about: a metadata's own, or the one that the frame names; an
+-- answer is about none
 abbrev pub about : (List ℕ → List ℕ) → Frame → Option BlobId
 about digest (Metadata metadata) = Some (put_id digest (Metadata metadata))
 about digest (Sliver id axis index bytes) = Some (named id)
@@ -76,7 +76,7 @@ pub record AlikeLedgers (id : BlobId) (one other : Log) : Type 0 where
   pub own : own_entries other id ≡ own_entries one id
 
 -- alike at an identifier: the same shard of such ledgers, which holds the same parts under it; what
--- is held under others, what is entered of them, and how much room there is may differ
+-- is held under others, what is entered about them, and how much room there is may differ
 pub record AlikeAt (id : BlobId) (one other : ServedState) : Type 0 where
   pub faults : other.shard.f ≡ one.shard.f
   pub index : other.shard.index ≡ one.shard.index
@@ -85,16 +85,16 @@ pub record AlikeAt (id : BlobId) (one other : ServedState) : Type 0 where
 
 -- ---- room
 
--- whether a single frame was answered, an answer of this code
+-- whether the answer is a single frame, with this code
 abbrev pub tells : ℕ → List (List ℕ) → Bool
 tells code ((kind ∷ told ∷ rest) ∷ []) = nat_eq kind 0x30 && nat_eq told code
 tells code _ = false
 
--- whether it tells of an entry that was made: it is done, or counts
+-- whether it tells that an entry was made: done, or counted
 abbrev pub tells_entry : List (List ℕ) → Bool
 tells_entry frames = tells 0 frames || (tells 13 frames || tells 14 frames)
 
--- the pages of the part that was read, and none where it is no part
+-- the pages of the part that was read; none if it is no part
 abbrev pub pages_in : Result Frame FrameError → ℕ
 pages_in (Ok frame) = pages_for (length (stored_bytes frame))
 pages_in (Err fault) = 0
@@ -112,7 +112,7 @@ asks_entry (AckEntry shard id) = true
 asks_entry (AttestEntry shard id) = true
 asks_entry _ = false
 
--- one entry where what was read asks for one
+-- one entry if what was read asks for one
 abbrev pub entries_in : Result Frame FrameError → ℕ
 entries_in (Ok frame) = cond (asks_entry frame) 1 0
 entries_in (Err fault) = 0
@@ -121,7 +121,7 @@ entries_in (Err fault) = 0
 abbrev pub asked_entries : List ℕ → ℕ
 asked_entries payload = entries_in (read_of payload)
 
--- the pages and the entries that an answer to a payload tells to be taken
+-- the pages and the entries that a payload took, as its answer tells
 abbrev pub taken_pages : List ℕ → List (List ℕ) → ℕ
 taken_pages payload frames = cond (tells 0 frames) (part_pages payload) 0
 
@@ -140,8 +140,8 @@ pub record RoomFor (id : BlobId) (state : ServedState) (pages entries : ℕ) : T
 
 -- ---- THE FIRST LAW: alike states answer alike, and are alike then
 
--- any two answers of alike states to a payload that regards the identifier, of which neither tells
--- of want of room: the one is an answer of the other state too, which is alike then; and the two
+-- any two answers of alike states to a payload that regards the identifier, neither of which tells
+-- of want of room: the one is also an answer of the other state, which is then alike; and the two
 -- are the same, but for the two texts of a collision
 abbrev pub AnswersAlike : (List ℕ → List ℕ) → Type 0
 AnswersAlike digest =
@@ -154,7 +154,7 @@ AnswersAlike digest =
     → AnswersRequest digest also other payload frames clash then × SameFrames frames others
     × AlikeAt id new then
 
--- and where there is room for what the answer tells to be taken, there is that answer
+-- and if there is room for what the answer tells was taken, the other state has that answer too
 abbrev pub AnswersWithRoom : (List ℕ → List ℕ) → Type 0
 AnswersWithRoom digest =
     (id : BlobId) (one other : ServedState) (payload : List ℕ) (may_want also : Bool)
@@ -165,7 +165,7 @@ AnswersWithRoom digest =
     → (then : ServedState) × AnswersRequest digest also other payload frames clash then
     × AlikeAt id new then
 
--- and where the other state tells of want of room and this one does not, this one tells that a part
+-- and if the other state tells of want of room and this one does not, this one tells that a part
 -- was stored or an entry made
 abbrev pub WantsForMore : (List ℕ → List ℕ) → Type 0
 WantsForMore digest =
@@ -188,8 +188,8 @@ LeavesAlike digest =
 
 -- ---- THE THIRD LAW: what was served about others may be left out
 
--- one payload that was served: who sent it, the frames that were answered, and the two texts where
--- they ended serving
+-- one payload that was served: who sent it, the frames of the answer, and the two texts if they
+-- ended serving
 pub record Turn : Type 0 where
   pub sender : ℕ
   pub payload : List ℕ
@@ -206,8 +206,8 @@ turns table room fresh _ _ _ _
     turns table room fresh front frames None mid before
     ++ record { sender = sender; payload = payload; answered = some; clash = clash } ∷ []
 
--- the envelopes in which it came, the frames that were answered, and the two texts, where the last
--- one ended serving
+-- the envelopes in which it came, the frames of the answers, and the two texts if the last one
+-- ended serving
 abbrev pub bytes_of : List Turn → List ℕ
 bytes_of all = flat_map (λ turn. envelope turn.sender turn.payload) all
 
@@ -217,8 +217,8 @@ frames_of all = flat_map (λ turn. turn.answered) all
 abbrev pub clash_of : List Turn → Option MetaClash
 clash_of all = fold (λ (collided : Option MetaClash) (turn : Turn). turn.clash) None all
 
--- a choice of payloads: all that regard the identifier, none that regards another one, and of those
--- that regard none any
+-- a choice of payloads: all that regard the identifier, none that regards another one, and any of
+-- those that regard none
 pub record Chooses (digest : List ℕ → List ℕ) (id : BlobId) (keeps : List ℕ → Bool) : Type 0 where
   pub own : (payload : List ℕ) → regarding digest payload ≡ Some id → keeps payload ≡ true
   pub no_other : (payload : List ℕ) (other : BlobId) → keeps payload ≡ true
@@ -235,9 +235,8 @@ stored_pages all = sum_by (λ turn. taken_pages turn.payload turn.answered) all
 abbrev pub made_entries : List Turn → ℕ
 made_entries all = sum_by (λ turn. taken_entries turn.payload turn.answered) all
 
--- a state that is alike at the identifier serves what is left, and answers it exactly as before,
--- where there is room for what was stored and entered of it and no answer to it told of want of
--- room
+-- a state that is alike at the identifier serves what is left, and answers it exactly as before, if
+-- there is room for what it stores and enters, and none of its answers told of want of room
 abbrev pub ServesWhatIsLeft : (List ℕ → List ℕ) → Type 0
 ServesWhatIsLeft digest =
     (id : BlobId) (keeps : List ℕ → Bool) (room : ℕ) (may_want also : Bool)
@@ -265,14 +264,15 @@ pub record SameParts (id : BlobId) (sliver : Axis) (one other : ServedState) : T
       ≡ part_of (parts_at one.shard.contents id) (sliver_part sliver)
   pub proof : (parts_at other.shard.contents id).proof ≡ (parts_at one.shard.contents id).proof
 
--- the sliver that a request to a reader's question rests on: a read asks for the primary one, and
--- symbols of a sliver come out of the one that crosses it
+-- the sliver on which the answer to a reader rests: the primary one for a read, and for symbols of
+-- a sliver the one that crosses it
 abbrev pub RestsOn : Frame → BlobId → Axis → Type 0
 RestsOn (Read name) id sliver = (id ≡ named name) × (sliver ≡ axes.Primary)
 RestsOn (Symbol name axis index) id sliver = (id ≡ named name) × (sliver ≡ crossing axis)
 RestsOn _ id sliver = ⊥
 
--- it is answered alike by whatever shard holds the same metadata, that sliver and the same proof
+-- the request is answered alike by any shard that holds the same metadata, that sliver and the same
+-- proof
 abbrev pub ReadsRestOn : (List ℕ → List ℕ) → Type 0
 ReadsRestOn digest =
     (id : BlobId) (sliver : Axis) (one other : ServedState) (payload : List ℕ) (frame : Frame)
@@ -283,7 +283,7 @@ ReadsRestOn digest =
 
 -- ---- THE FIFTH LAW: entries and parts may be fed in another order
 
--- nothing is held under the identifier, and nothing of it is entered
+-- nothing is held under the identifier, and it has no entries
 pub record HasNothing (id : BlobId) (state : ServedState) : Type 0 where
   pub parts : parts_at state.shard.contents id ≡ no_parts
   pub entries : own_entries state.ledger.log id ≡ []
@@ -316,8 +316,8 @@ pages_of held =
     part_cost held.metadata + part_cost held.primary + part_cost held.secondary
     + part_cost held.proof
 
--- the payloads of the held ones of metadata, primary sliver, secondary sliver and proof, in this
--- order
+-- the payloads of those that are held of metadata, primary sliver, secondary sliver and proof, in
+-- this order
 abbrev pub part_payloads : List ℕ → ℕ → Parts → List (List ℕ)
 part_payloads id shard held =
     metadata_reply held
@@ -341,8 +341,8 @@ pub record IsPlaced (id : BlobId) (room : ℕ) (state : ServedState) : Type 0 wh
   pub enough : desk_room state.shard.f ≤ room
   pub fits : room < 2 ^ 32
 
--- a shard that has nothing of the identifier and room for all that another one kept of it: fed with
--- the entries and then the parts that the other one has come to, it is alike to that one
+-- a shard that has nothing of the identifier and room for all that another one kept of it: fed the
+-- entries and then the parts that the other one now has, it becomes alike to that one
 abbrev pub Rebuilds : (List ℕ → List ℕ) → Type 0
 Rebuilds digest =
     (id : BlobId) (room sender : ℕ) (may_want also : Bool) (one other : ServedState)

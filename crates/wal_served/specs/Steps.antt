@@ -1,5 +1,5 @@
--- What serving does to a shard and its ledger, as the steps of the world: what each payload is as
--- an event, and what is then.
+-- What serving does to a shard and its ledger, as steps of the world: what each payload is as an
+-- event, and the state then.
 use Rattle.std.specs.Prelude.{◌≡◌, ◌≢◌, ◌⊎◌, ℕ, ◌-◌, ◌<◌, ◌≤◌, Bool, false, cond, not, nat_eq}
 use Rattle.std.specs.Prelude.{nat_lt, List, [], ◌∷◌, ◌++◌, length, take, filter, Option, Some, None}
 use Rattle.std.specs.Prelude.{Result, Ok, Err, ⊤}
@@ -55,9 +55,9 @@ others f own = filter (λ shard. not (nat_eq shard own)) (range_with_len 0 (comm
 abbrev pub alone : ℕ → ℕ → Contents → Committee
 alone f own contents = with_contents (empty_committee f (others f own)) own contents
 
--- this world, but with the ledger that is served, and a committee in which the shard that serves is
--- alone correct: the format in which blobs are written and the first completed answers, which no
--- request touches, are those of any world
+-- this world, but with the ledger that is served, and a committee in which only the shard that
+-- serves is correct: the format in which blobs are written and the first completed answers, which
+-- no request touches, are those of any world
 abbrev pub world_of : World → ServedState → World
 world_of world state = record world {
   log = state.ledger.log;
@@ -65,8 +65,8 @@ world_of world state = record world {
   next = nobody;
 }
 
--- a shard of the ledger's committee, whose epoch isn't changing, and each shard has a node of its
--- own
+-- a shard of the committee of a ledger whose epoch isn't changing, with a node of its own for each
+-- shard
 pub record IsDesk (state : ServedState) : Type 0 where
   pub place : state.shard.index < committee_size state.shard.f
   pub faults : state.ledger.log.f ≡ state.shard.f
@@ -83,7 +83,7 @@ pub data Meaning : Type 0 where
   own_entry : Meaning
   no_event : Meaning
 
--- an entry of a shard: of another one of the committee it is an event
+-- an entry of a shard: an event if it is another one of the committee
 abbrev pub entry_of : ℕ → ℕ → ℕ → Event → Meaning
 entry_of f own shard claim =
     cond (nat_eq shard own) own_entry
@@ -120,15 +120,15 @@ meaning f own payload = read_meaning f own payload (read_of payload)
 abbrev pub answer_text : ℕ → ℕ → ℕ → List ℕ
 answer_text code first second = frame_text (Answer code first second)
 
--- the answer to each word of a registration, which tells the resulting `until`; while the epoch
--- does not change none is refused for that
+-- the answer to each word of a registration, which tells the resulting `until`; none is refused for
+-- its change
 abbrev pub register_frame : RegisterWord → Option Frame
 register_frame (registering.Until until) = Some (Answer 0 until 0)
 register_frame registering.RefusedPast = Some (Answer 15 0 0)
 register_frame registering.RefusedMoving = None
 
--- the answer to each word of what is put; a correct shard of a committee that is there says no
--- other, of a metadata, a sliver or a proof
+-- the answer to each word of a put; about a metadata, a sliver or a proof, a correct shard of a
+-- committee that is there says no other
 abbrev pub send_frame : SendWord → Option Frame
 send_frame sending.Stored = Some (Answer 0 0 0)
 send_frame sending.Unregistered = Some (Answer 1 0 0)
@@ -175,18 +175,18 @@ frame_of (of_line.Forget shard id word) = forget_frame word
 frame_of (of_line.Collision left right) = Some (Clash left right)
 frame_of _ = None
 
--- the one frame that is answered is the one that belongs to this line
+-- the answer is the one frame that belongs to this line
 abbrev pub IsTold : Line → List (List ℕ) → Type 0
 IsTold said frames =
     (frame : Frame) × (frame_of said ≡ Some frame) × (frames ≡ frame_text frame ∷ [])
 
--- a line is the collision of the two texts that end serving, and is none where serving goes on
+-- a line is the collision of the two texts that end serving, and is no collision if serving goes on
 abbrev pub TellsClash : Option MetaClash → Line → Type 0
 TellsClash None said = is_collision said ≡ false
 TellsClash (Some texts) said = said ≡ of_line.Collision texts.left texts.right
 
--- the world takes a step, whose line is what was answered, and a collision exactly where two texts
--- end serving, of these texts
+-- the world takes a step, whose line is what was answered; it is a collision exactly if two texts
+-- end serving, and then of these texts
 pub record TakesStep (digest : List ℕ → List ℕ) (old : ServedState) (happening : Event)
     (frames : List (List ℕ)) (clash : Option MetaClash) (new : ServedState) : Type 0 where
   pub line : Line
@@ -195,7 +195,8 @@ pub record TakesStep (digest : List ℕ → List ℕ) (old : ServedState) (happe
   pub told : IsTold line frames
   pub ends : TellsClash clash line
 
--- the answers for want of room, which the world does not have: of pages, of memory, and of entries
+-- the answers for want of room, be it of pages, of memory or of entries, which the world never
+-- gives
 abbrev pub IsWant : ℕ → Type 0
 IsWant code = (code ≡ 6) ⊎ ((code ≡ 7) ⊎ (code ≡ 10))
 
@@ -210,8 +211,8 @@ pub record LacksRoom (old : ServedState) (frames : List (List ℕ))
   pub goes_on : clash ≡ None
   pub same : new ≡ old
 
--- what is done by what a payload is: an event is a step of the world, where there is room; an entry
--- of this very shard leaves the shard as it is; and else nothing changes
+-- what is done, by what a payload is: an event is a step of the world, if there is room; an entry
+-- of this very shard leaves the shard as it is; otherwise nothing changes
 abbrev pub Does : (List ℕ → List ℕ) → ServedState → Meaning → List (List ℕ) → Option MetaClash
     → ServedState → Type 0
 Does digest old (an_event happening) frames clash new =
@@ -219,14 +220,14 @@ Does digest old (an_event happening) frames clash new =
 Does digest old own_entry frames clash new = (new.shard ≡ old.shard) × (clash ≡ None)
 Does digest old no_event frames clash new = (new ≡ old) × (clash ≡ None)
 
--- a shard asks for symbols of its sliver by the index that held metadata gives it; where nothing is
--- held any index is one
+-- a shard asks for symbols of its sliver by the index that held metadata gives it; if neither
+-- metadata nor proof is held, any index will do
 pub data AsksFor (parts : Parts) (axis : Axis) (index shard : ℕ) : Type 0 where
   by_metadata : (metadata : BlobMetadata) → HoldsMetadata parts metadata
       → index ≡ held_index metadata.format metadata.f axis shard → AsksFor parts axis index shard
   of_nothing : parts.metadata ≡ None → parts.proof ≡ None → AsksFor parts axis index shard
 
--- what is asked of what is held has the true reply of the world's shard, and then the number of its
+-- a request for what is held gets the true reply of the world's shard, and then the number of its
 -- frames
 abbrev pub RepliesTruly : (List ℕ → List ℕ) → ServedState → Result Frame FrameError → List (List ℕ)
     → Option MetaClash → Type 0
@@ -248,7 +249,7 @@ RepliesTruly digest old _ frames clash = ⊤
 abbrev pub IsRefused : ℕ → Type 0
 IsRefused code = (code ≡ 9) ⊎ IsWant code
 
--- WHAT A PAYLOAD DOES that was looked at: it is answered so, and that is this in the world
+-- WHAT A PAYLOAD DOES that was looked at: its answer, and what that is in the world
 pub record Stepped (digest : List ℕ → List ℕ) (may_want : Bool)
     (old : ServedState) (payload : List ℕ) (frames : List (List ℕ))
     (clash : Option MetaClash) (new : ServedState) : Type 0 where
@@ -259,8 +260,8 @@ pub record Stepped (digest : List ℕ → List ℕ) (may_want : Bool)
       → IsRefused code → new ≡ old
   pub place : SamePlace old.shard new.shard
 
--- EVERY REQUEST: what the table of requests has for a payload is this, where each shard has a node
--- of its own and the epoch isn't changing, and then both are so again
+-- EVERY REQUEST: what the table of requests has for a payload is this, if each shard has a node of
+-- its own and the epoch isn't changing; both are still so afterwards
 abbrev pub EveryRequest : (List ℕ → List ℕ) → Type 0
 EveryRequest digest =
     (may_want : Bool) (old : ServedState) (payload : List ℕ)
@@ -268,8 +269,8 @@ EveryRequest digest =
     → IsDesk old → AnswersRequest digest may_want old payload frames clash new
     → Stepped digest may_want old payload frames clash new × IsDesk new
 
--- WHAT SERVING DOES: the bytes are whole envelopes, and each payload did so in turn, but one that
--- is longer than the room, which is no request, changed nothing
+-- WHAT SERVING DOES: the bytes are whole envelopes, and each payload did so in turn; one that is
+-- longer than the room is no request, and changed nothing
 abbrev pub AreSteps : (List ℕ → List ℕ) → Bool → ℕ → ServedState → List ℕ → List (List ℕ)
     → Option MetaClash → ServedState → Type 0
 AreSteps digest may_want room fresh taken frames clash state =
@@ -277,11 +278,11 @@ AreSteps digest may_want room fresh taken frames clash state =
 
 -- ---- as a run of the world
 
--- a payload, and the frames that were answered to it
+-- a payload, and the frames of its answer
 abbrev pub Exchange : Type 0
 Exchange = List ℕ × List (List ℕ)
 
--- the payloads that were served, in order, each with what was answered to it
+-- the payloads that were served, in order, each with its answer
 abbrev pub exchanges : (digest : List ℕ → List ℕ) (may_want : Bool) (room : ℕ) (fresh : ServedState)
     (taken : List ℕ) (frames : List (List ℕ)) (clash : Option MetaClash) (state : ServedState)
     → AreSteps digest may_want room fresh taken frames clash state → List Exchange
@@ -290,13 +291,13 @@ exchanges digest may_want room fresh _ _ _ _
     (more front frames mid before sender payload some clash new fits replies) =
     exchanges digest may_want room fresh front frames None mid before ++ (payload, some) ∷ []
 
--- the event that a payload is, if it is one, with the frames that were answered
+-- the event that a payload is, if it is one, with the frames of its answer
 abbrev pub event_if : Meaning → List (List ℕ) → List (Event × List (List ℕ))
 event_if (an_event happening) frames = (happening, frames) ∷ []
 event_if _ frames = []
 
--- the events of payloads with the frames that were answered to each, in order: one that is longer
--- than the room is none
+-- the events that payloads are, in order, each with the frames of its answer: a payload that is
+-- longer than the room is none
 abbrev pub events_of : ℕ → ℕ → ℕ → List Exchange → List (Event × List (List ℕ))
 events_of room f own all =
     flat_map
@@ -309,14 +310,14 @@ NoOwnEntry room f own all =
     (exchange : Exchange) → Contains all exchange → length exchange.0 ≤ room
     → meaning f own exchange.0 ≢ own_entry
 
--- all that is answered is one frame that tells of want of room
+-- the answer is one frame, which tells of want of room
 abbrev pub TellsWant : List (List ℕ) → Type 0
 TellsWant frames =
     (code : ℕ) × (first : ℕ) × (second : ℕ) × IsWant code
     × (frames ≡ answer_text code first second ∷ [])
 
--- events in order and their lines: those are left out whose answer tells of want of room, and to
--- each other one its line was answered, which never tells of that
+-- events in order and their lines: those whose answer tells of want of room are left out, and each
+-- other one was answered by its line, which never tells of that
 pub data AreOf : List Event → List Line → List (Event × List (List ℕ)) → Type 0 where
   nothing : AreOf [] [] []
   with_next : (some : List Event) (lines : List Line) (all : List (Event × List (List ℕ)))
@@ -334,15 +335,15 @@ abbrev pub last_world : World → List World → World
 last_world world [] = world
 last_world world (next ∷ states) = last_world next states
 
--- the last line is the collision of the two texts that end serving, and no other is a collision;
--- where serving goes on, none is
+-- the last line is the collision of the two texts that end serving, and no other is a collision; if
+-- serving goes on, none is
 abbrev pub StopsBy : Option MetaClash → List Line → Type 0
 StopsBy None lines = GoesOn lines
 StopsBy (Some texts) lines =
     (ends : EndsInCollision lines) × (ends.said ≡ of_line.Collision texts.left texts.right)
 
--- A RUN OF THE WORLD from one state to the other, of these events in their order but those whose
--- answer tells of want of room, and each of its lines was answered to its event
+-- A RUN OF THE WORLD from one state to the other, of these events in order, without those whose
+-- answer tells of want of room; each event was answered by its line
 pub record IsRunTo (digest : List ℕ → List ℕ) (world : World)
     (fresh : ServedState) (all : List (Event × List (List ℕ)))
     (clash : Option MetaClash) (state : ServedState) : Type 0 where
@@ -354,7 +355,7 @@ pub record IsRunTo (digest : List ℕ → List ℕ) (world : World)
   pub ends : last_world (world_of world fresh) states ≡ world_of world state
   pub stops : StopsBy clash lines
 
--- what was served is a run of the events that the payloads are, where none is an entry of the very
+-- what was served is a run of the events that the payloads are, if none is an entry of the very
 -- shard that serves
 abbrev pub IsServedRun : (List ℕ → List ℕ) → ℕ → ServedState → List Exchange → Option MetaClash
     → ServedState → Type 0
@@ -364,7 +365,7 @@ IsServedRun digest room fresh all clash state =
     → IsRunTo digest world fresh (events_of room fresh.shard.f fresh.shard.index all) clash state
 
 -- at each place of what was served, what was served so far is such a run, to the state there: so it
--- is one up to the first entry of the very shard that serves, whatever comes behind
+-- is one up to the first entry of the very shard that serves, whatever follows
 abbrev pub AreServedRuns : (digest : List ℕ → List ℕ) (may_want : Bool)
     (room : ℕ) (fresh : ServedState) (taken : List ℕ)
     (frames : List (List ℕ)) (clash : Option MetaClash) (state : ServedState)
@@ -379,8 +380,8 @@ AreServedRuns digest may_want room fresh _ _ _ _
 
 -- ---- of all that was taken
 
--- what ended serving are these two texts exactly where its end tells them, but where a write
--- failed, whose end does not tell
+-- these two texts ended serving exactly if its end tells them; if a write failed, its end does not
+-- tell
 abbrev pub EndsBy : ServeEnd → Option MetaClash → Type 0
 EndsBy (ending.Collision texts) clash = clash ≡ Some texts
 EndsBy ending.WriteFault clash = ⊤

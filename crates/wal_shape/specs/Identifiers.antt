@@ -5,7 +5,7 @@ use Rattle.std.specs.Ordering.{nat_cmp}
 use Rattle.std.specs.Cmp.Lexicographic.{pointwise, slice_cmp}
 use Rattle.wal_shape.specs.declared.metadata.BlobId.{BlobId}
 
--- two identifiers have the same bytes
+-- whether two identifiers have the same bytes
 abbrev pub id_eq : BlobId → BlobId → Bool
 id_eq one other = pointwise nat_eq one.0 other.0
 

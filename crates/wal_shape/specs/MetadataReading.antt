@@ -8,7 +8,7 @@ use Rattle.wal_shape.specs.Shape.{shard_count}
 use Rattle.wal_shape.specs.Metadata.{BlobMetadata, held_order}
 use Rattle.wal_shape.specs.Spelling.{format_text}
 
--- the format, which the first byte tells: it is at most 1 where f stands first
+-- the format, told by the first byte, which is at most 1 if f stands first
 unfoldable pub spelled_format : List ℕ → Format
 spelled_format bytes = if get_or bytes 0 0 == 2 then Two else One
 
@@ -16,11 +16,11 @@ spelled_format bytes = if get_or bytes 0 0 == 2 then Two else One
 unfoldable pub behind_format : List ℕ → List ℕ
 behind_format bytes = drop (length (format_text (spelled_format bytes))) bytes
 
--- f and the length, of the bytes behind the format
+-- f, which the first two bytes behind the format spell
 unfoldable pub spelled_f : List ℕ → ℕ
 spelled_f bytes = from_be_bytes w16 (take 2 bytes)
 
--- the length that eight bytes behind the two of f spell
+-- the length, which the eight bytes after the two of f spell
 unfoldable pub spelled_length : List ℕ → ℕ
 spelled_length bytes = from_be_bytes w64 (take 8 (drop 2 bytes))
 
@@ -28,7 +28,7 @@ spelled_length bytes = from_be_bytes w64 (take 8 (drop 2 bytes))
 abbrev pub pairs_in : List ℕ → List ℕ
 pairs_in bytes = drop 8 (drop 2 bytes)
 
--- n roots, of which one begins at every 64th byte
+-- n roots, one of which begins at every 64th byte
 unfoldable pub every_root : ℕ → List ℕ → List (List ℕ)
 every_root zero bytes = []
 every_root (suc n) bytes = take 32 bytes ∷ every_root n (drop 64 bytes)

@@ -35,8 +35,9 @@ has_proof parts = is_some parts.metadata && is_some parts.proof
 abbrev pub settled : Parts → Bool
 settled parts = settled_by_slivers parts || has_proof parts
 
--- what a shard may hold under an identifier: a metadata of f that the identifier commits; and only
--- beside one, slivers of the shard's own indices that it commits, and a proof that is bad for it
+-- what a shard may hold under an identifier: metadata of f that the identifier commits; and only
+-- beside metadata, slivers of the shard's own indices that it commits, and a proof that is bad for
+-- it
 pub record IsSound (digest : List ℕ → List ℕ) (f : ℕ)
     (id : List ℕ) (shard : ℕ) (parts : Parts) : Type 0 where
   pub metadata : (bytes : List ℕ) → parts.metadata ≡ Some bytes
@@ -53,12 +54,12 @@ pub record IsSound (digest : List ℕ → List ℕ) (f : ℕ)
       → (held_proof : EncodingProof) × IsProof held_proof × (bytes ≡ proof_text held_proof)
       × IsBadProof digest described held_proof
 
--- one payload where a part is held, and none where it is not
+-- one payload if a part is held, and none if it is not
 abbrev pub payload_if : Option (List ℕ) → (List ℕ → List ℕ) → List (List ℕ)
 payload_if None payload = []
 payload_if (Some bytes) payload = payload bytes ∷ []
 
--- the frame of held metadata, and of a held proof
+-- the frame of held metadata
 abbrev pub metadata_reply : Parts → List (List ℕ)
 metadata_reply parts = payload_if parts.metadata (λ bytes. metadata_frame (spelled_metadata bytes))
 
@@ -67,16 +68,17 @@ abbrev pub primary_reply : List ℕ → ℕ → Parts → List (List ℕ)
 primary_reply id shard parts =
     payload_if parts.primary (λ bytes. sliver_frame id axes.Primary shard bytes)
 
+-- the frame of a held proof
 abbrev pub proof_reply : List ℕ → Parts → List (List ℕ)
 proof_reply id parts = payload_if parts.proof (λ bytes. 0x13 ∷ (id ++ bytes))
 
--- what a shard answers to a read: the frames of the held ones of metadata, primary sliver and
--- proof, in this order
+-- a shard's answer to a read: the frames of the metadata, the primary sliver and the proof, those
+-- that are held, in this order
 abbrev pub read_reply_of : List ℕ → ℕ → Parts → List (List ℕ)
 read_reply_of id shard parts =
     metadata_reply parts ++ (primary_reply id shard parts ++ proof_reply id parts)
 
--- the frame of the opening of the target that the shard's crossing sliver gives, where that is held
+-- the frame of the opening of the target that the shard's crossing sliver gives, if that is held
 -- and the index is a shard's
 pub data OpeningReply (digest : List ℕ → List ℕ) (id : List ℕ)
     (shard : ℕ) (parts : Parts) (axis : Axis) (index : ℕ) : List (List ℕ)
@@ -93,7 +95,7 @@ pub data OpeningReply (digest : List ℕ → List ℕ) (id : List ℕ)
   no_shard : (held : BlobMetadata) → HoldsMetadata parts held → (index < shard_count held.f → ⊥)
       → OpeningReply digest id shard parts axis index []
 
--- what a shard answers to a request for symbols of a sliver: the frame of the held metadata, that
+-- a shard's answer to a request for symbols of a sliver: the frame of the held metadata, that
 -- opening, and the held proof
 abbrev pub SymbolReplies : (List ℕ → List ℕ) → List ℕ → ℕ → Parts → Axis → ℕ → List (List ℕ)
     → Type 0

@@ -1,4 +1,4 @@
--- What a shard makes of metadata, slivers and proofs that are put to it.
+-- A shard's answer to metadata, slivers and proofs that are put to it.
 use Rattle.std.specs.Prelude.{◌≡◌, ◌≢◌, ℕ, ◌<◌, Bool, true, false, List, [], Option, Some, None}
 use Rattle.std.specs.Prelude.{IsSome, unwrap_or}
 use Rattle.wal_shape.specs.declared.metadata.BlobId.{BlobId}
@@ -29,15 +29,15 @@ CanBePut (Sliver id axis index bytes) = Unit {0}
 CanBePut (Proof id proof) = Unit {0}
 CanBePut _ = ⊥
 
--- the identifier under which a frame is put: that which a metadata commits, or the one that is
--- named
+-- the identifier under which a frame is put: the one that commits to the metadata, or the one that
+-- is named
 abbrev pub put_id : (List ℕ → List ℕ) → Frame → BlobId
 put_id digest (Metadata metadata) = record { 0 = identifier_of digest metadata }
 put_id digest (Sliver id axis index bytes) = record { 0 = id }
 put_id digest (Proof id proof) = record { 0 = id }
 put_id digest _ = record { 0 = [] }
 
--- which part it is; what carries none is never stored
+-- the part that a frame carries; a frame that carries none is never stored
 abbrev pub put_part : Frame → Part
 put_part frame = unwrap_or (stored_part frame) parts.Metadata
 
@@ -46,8 +46,8 @@ abbrev pub RestsOnMetadata : Frame → Type 0
 RestsOnMetadata (Metadata metadata) = ⊥
 RestsOnMetadata _ = Unit {0}
 
--- a metadata has the shard's f; a sliver is one of the shard's own indices and the held metadata
--- commits it; a proof is bad for it
+-- metadata has the shard's f; a sliver is one of the shard's own indices and the held metadata
+-- commits it; a proof is bad for the held metadata
 abbrev pub Verifies : (List ℕ → List ℕ) → ℕ → ℕ → Parts → Frame → Type 0
 Verifies digest f shard held (Metadata metadata) = metadata.f ≡ f
 Verifies digest f shard held (Sliver id axis index bytes) =
@@ -58,7 +58,7 @@ Verifies digest f shard held (Proof id proof) =
     (metadata : BlobMetadata) × HoldsMetadata held metadata × IsBadProof digest metadata proof
 Verifies digest f shard held _ = ⊥
 
--- the part is held: a metadata, where it is the same one
+-- the part is held; if it is metadata, this very metadata
 abbrev pub IsHeldIn : Contents → BlobId → Frame → Type 0
 IsHeldIn contents id (Metadata metadata) =
     part_at contents id parts.Metadata ≡ Some (metadata_text metadata)
@@ -78,8 +78,8 @@ pub record IsAccepted (digest : List ℕ → List ℕ) (desk : PutDesk)
   pub live : is_live desk.log (put_id digest frame) ≡ true
   pub verified : Verifies digest desk.f desk.shard (parts_at old (put_id digest frame)) frame
 
--- `put`, by its answer, of which the first case that applies is given: what was held, the frame,
--- and what is held then
+-- `put`, by its answer, the first case that applies: what was held, the frame, and what is held
+-- then
 abbrev pub Puts : (List ℕ → List ℕ) → PutDesk → Contents → Frame → PutAnswer → Contents → Type 0
 Puts digest desk old frame Unregistered new =
     (is_live desk.log (put_id digest frame) ≡ false) × (new ≡ old)
@@ -111,7 +111,7 @@ Puts digest desk old frame Stored new =
 -- no case of the definition: a keep may want memory, and then nothing changes
 Puts digest desk old frame Memory new = ⊥
 
--- the same, where the keep may answer that it wants memory in place of storing or of having no room
+-- the same, but the keep may answer that it wants memory, instead of storing or of having no room
 abbrev pub PutsOrWants : (List ℕ → List ℕ) → Bool → PutDesk → Contents → Frame → PutAnswer
     → Contents → Type 0
 PutsOrWants digest may_want desk old frame Memory new =
@@ -128,7 +128,7 @@ ShowsTexts digest old frame (OtherMetadata clash) =
     × AreDigestedFor digest metadata held clash.left clash.right
 ShowsTexts digest old frame _ = Unit {0}
 
--- what storing a part comes to that isn't held, by the answer
+-- the result of storing a part that is not held, by the answer
 abbrev pub Stores : Option ℕ → Bool → Contents → BlobId → Part → List ℕ → PutAnswer → Contents
     → Type 0
 Stores limit may_want old id part bytes Stored new =
@@ -139,7 +139,7 @@ Stores limit may_want old id part bytes (Full needed free) new =
 Stores limit may_want old id part bytes Memory new = (may_want ≡ true) × (new ≡ old)
 Stores limit may_want old id part bytes _ new = ⊥
 
--- what is made of a metadata beside the one that is held
+-- the answer to metadata that is put beside what is held
 abbrev pub Compares : (List ℕ → List ℕ) → Option (List ℕ) → BlobMetadata → PutAnswer → Type 0
 Compares digest old metadata Held = old ≡ Some (metadata_text metadata)
 Compares digest old metadata (OtherMetadata clash) =

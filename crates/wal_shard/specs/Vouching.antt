@@ -28,7 +28,7 @@ Vouches kind log contents id (Err Expires) =
 Vouches kind log contents id (Err Declined) =
     IsOpen log id × (backs kind (parts_at contents id) ≡ false)
 
--- without both slivers of an identifier
+-- the contents without both slivers of an identifier
 abbrev pub without_slivers : Contents → BlobId → Contents
 without_slivers contents id =
     without_part (without_part contents id parts.Primary) id parts.Secondary
@@ -38,10 +38,10 @@ pub record MayForget (log : Log) (contents : Contents) (id : BlobId) : Type 0 wh
   pub invalid : IsInvalid log id
   pub proof : has_proof (parts_at contents id) ≡ true
 
--- everything is settled that must be held
+-- everything that must be held is settled
 abbrev pub IsReady : Log → Contents → Type 0
 IsReady log contents = (id : BlobId) → MustHold log id → settled (parts_at contents id) ≡ true
 
--- without what isn't live
+-- the contents without what is not live
 abbrev pub without_dead : Log → Contents → Contents
 without_dead log contents = map.retain_keys contents (is_live log)

@@ -5,13 +5,12 @@ use Rattle.wal_store.specs.declared.contract.KeepError.{KeepError}
 use Rattle.wal_store.specs.declared.contract.KeepError.TheVariants.{Full, Memory}
 use Rattle.wal_store.specs.Contents.{Contents, free_of, needed_for}
 
--- so many pages are free, or there is no limit
+-- `needed` pages are free, or there is no limit
 abbrev pub HasRoom : Option ℕ → ℕ → Type 0
 HasRoom None needed = Unit {0}
 HasRoom (Some free) needed = needed ≤ free
 
--- what the answer to a put says of the contents before: full exactly where more is needed than is
--- free
+-- what the answer to a put says of the contents before: full exactly if more is needed than is free
 abbrev pub IsPutAnswer : Option ℕ → Bool → Contents → BlobId → List ℕ → Result (Unit {0}) KeepError
     → Type 0
 IsPutAnswer limit may_want contents id bytes (Ok done) =

@@ -9,7 +9,7 @@ use Rattle.wal_store.specs.declared.contract.KeepError.TheVariants.{Memory}
 use Rattle.wal_store.specs.Contents.{Contents, part_at, with_bytes, without_part}
 use Rattle.wal_store.specs.Answer.{IsPutAnswer}
 
--- what a put answers
+-- the answer to a put
 abbrev pub PutAnswer : Type 0
 PutAnswer = Result (Unit {0}) KeepError
 
@@ -34,7 +34,7 @@ abbrev pub after_calls : Contents → List Call → Contents
 after_calls old [] = old
 after_calls old (call ∷ calls) = after_calls (after_call old call) calls
 
--- a part is put that is not held then, of from 1 byte to as many as a blob may have; what is
+-- a part that is put was not held, and has from 1 byte to as many as a blob may have; what is
 -- dropped need not be held
 abbrev pub IsLawfulCall : Contents → Call → Type 0
 IsLawfulCall old (Put id part bytes) =
@@ -76,7 +76,7 @@ Continues limit may_want old call more new =
 abbrev pub NoneWants : List PutAnswer → Type 0
 NoneWants answers = All (λ answer. answer ≢ Err Memory) answers
 
--- two answers to one put are equal where neither is want of memory
+-- two answers to one put are equal if neither is want of memory
 abbrev pub PutsAgree : Type 0
 PutsAgree =
     (limit : Option ℕ) (may_want may_want' : Bool) (contents : Contents)
@@ -86,7 +86,7 @@ PutsAgree =
     → answer ≢ Err Memory → answer' ≢ Err Memory → answer ≡ answer'
 
 -- two runs of the same calls from the same contents have equal answers and end with the same
--- contents, where no put found memory short
+-- contents, if no put found memory short
 abbrev pub RunsAgree : Type 0
 RunsAgree =
     (limit : Option ℕ) (may_want may_want' : Bool) (old new new' : Contents)
@@ -127,7 +127,7 @@ pub record GoTogether (limit : Option ℕ) (left right : Bool) (old : Contents) 
   pub right_goes_on : RunsTo limit right reached rest right_rest right_end
   pub ends : (rest ≡ []) ⊎ (WantsNext left_rest ⊎ WantsNext right_rest)
 
--- any two runs of the same calls from the same contents do
+-- any two runs of the same calls from the same contents go together
 abbrev pub RunsTogether : Type 0
 RunsTogether =
     (limit : Option ℕ) (left right : Bool) (old left_end right_end : Contents)
@@ -135,7 +135,7 @@ RunsTogether =
     → RunsTo limit left old calls lefts left_end → RunsTo limit right old calls rights right_end
     → GoTogether limit left right old calls lefts rights left_end right_end
 
--- where each put stores, a run ends with what its calls make
+-- if each put stores, a run ends with what its calls make
 abbrev pub EndsAfterCalls : Type 0
 EndsAfterCalls =
     (limit : Option ℕ) (may_want : Bool) (old new : Contents)
@@ -148,7 +148,7 @@ CallsInParts =
     (old : Contents) (first more : List Call)
     → after_calls old (first ++ more) ≡ after_calls (after_calls old first) more
 
--- and so is whether they are lawful
+-- calls in two parts are lawful exactly if both parts are, one after the other
 abbrev pub LawfulInParts : Type 0
 LawfulInParts =
     (old : Contents) (first more : List Call)

@@ -12,7 +12,7 @@ CopiesJoin =
     (bytes : List ℕ) (at : ℕ) (sizes : List ℕ)
     → copies bytes at sizes ≡ take (sum sizes) (drop at bytes)
 
--- from the front on, and of as many bytes as there are, they are all the bytes
+-- copies from the front on, of as many bytes as there are, make all the bytes
 abbrev pub CopiesMakeAll : Type 0
 CopiesMakeAll =
     (bytes : List ℕ) (sizes : List ℕ) → sum sizes ≡ length bytes → copies bytes 0 sizes ≡ bytes

@@ -15,7 +15,7 @@ pub record Parts : Type 0 where
 abbrev pub no_parts : Parts
 no_parts = record { metadata = None; primary = None; secondary = None; proof = None }
 
--- the bytes of a part, where it is held
+-- the bytes of a part, if it is held
 abbrev pub part_of : Parts → Part → Option (List ℕ)
 part_of parts Metadata = parts.metadata
 part_of parts Primary = parts.primary

@@ -7,7 +7,7 @@ use Rattle.wal_shape.specs.declared.BlobId.{BlobId}
 use Rattle.wal_shape.specs.Identifiers.{id_cmp}
 use Rattle.wal_store.specs.Contents.{Contents}
 
--- where an identifier goes, its place is closed
+-- when an identifier goes, its place is closed
 abbrev pub ClosesPlace : Type 0
 ClosesPlace =
     (contents : Contents) (id : BlobId) (place : ℕ) → slice_get (map.keys contents) place ≡ Some id
@@ -28,7 +28,7 @@ MovesDown =
     → slice_get (map.keys (map.remove contents id)) above
     ≡ slice_get (map.keys contents) (above + 1)
 
--- whether an identifier stands past another one; where there is no other, each does
+-- whether an identifier stands past another one; if there is no other, each does
 abbrev pub is_past : Option BlobId → BlobId → Bool
 is_past None id = true
 is_past (Some last) id = is_lt (id_cmp last id)

@@ -76,7 +76,7 @@ has_frames frames parts = list_all (has_frame parts) frames
 -- ---- reads
 
 -- what a shard replies to one that recovers its sliver of an axis: symbols of the sliver that its
--- own metadata says, and nothing where it holds none
+-- own metadata gives, and nothing if it holds none
 pub data SymbolReply (digest : List ℕ → List ℕ) (id : BlobId) (helper : ℕ)
     (parts : Parts) (axis : Axis) (shard : ℕ) : List (List ℕ)
     → Type 0 where
@@ -93,7 +93,7 @@ outcome_told reading.Reject = outcome.Reject
 outcome_told (reading.Short have need) = outcome.Short have need
 outcome_told reading.NoMetadata = outcome.NoMetadata
 
--- a read of payloads comes to this word, with this evidence
+-- a read of payloads has this word as its result, with this evidence
 abbrev pub ReadsTo : (List ℕ → List ℕ) → BlobId → List (List ℕ) → ReadWord → Option Evidence
     → Type 0
 ReadsTo digest id payloads word evidence =
@@ -121,14 +121,14 @@ pub record IsKnown (digest : List ℕ → List ℕ) (f : ℕ) (id : BlobId)
   pub only : (other : BlobMetadata) → Knows digest id parts payloads other → other ≡ metadata
   pub faults : metadata.f ≡ f
 
--- what all openings of the shard's own sliver come to by this metadata
+-- the result of all openings of the shard's own sliver by this metadata
 abbrev pub OwnOpeningsComeTo : (List ℕ → List ℕ) → BlobId → ℕ → Axis → List (List ℕ) → BlobMetadata
     → Recovered → Type 0
 OwnOpeningsComeTo digest id shard axis payloads metadata found =
     let index = held_index metadata.format metadata.f axis shard in
     OpeningsComeTo digest metadata axis index (openings_in id.0 axis index payloads) found
 
--- what a recovery comes to, and what the shard holds then: a part that is held stays
+-- the result of a recovery, and what the shard holds then: a part that is held stays
 abbrev pub RecoversTo : (List ℕ → List ℕ) → ℕ → BlobId → ℕ → Axis → Contents → List (List ℕ)
     → RecoverWord → Contents → Type 0
 -- no metadata is known that has the committee's f

@@ -33,11 +33,11 @@ pub record AreFirstLines (digest : List ℕ → List ℕ)
   pub some : count ≤ length schedule.events
   pub of_front : AreLines digest (front_of schedule count) lines
 
--- these are not the lines of all its events, where there are lines
+-- there are fewer lines than events, or none
 abbrev pub IsUnfinished : Schedule → List Line → Type 0
 IsUnfinished schedule lines = (length lines < length schedule.events) ⊎ (lines ≡ [])
 
--- the last line is a collision, and none before it
+-- the last line is a collision, and none before it is
 pub record EndsInCollision (lines : List Line) : Type 0 where
   pub front : List Line
   pub said : Line

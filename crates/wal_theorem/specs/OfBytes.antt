@@ -1,4 +1,5 @@
--- What a world holds and what was answered, as bytes: as all is that came of a schedule's events.
+-- What a world holds and what was answered are bytes: so is all that results from a schedule's
+-- events.
 use Rattle.std.specs.Prelude.{◌≡◌, ℕ, List, Some}
 use Rattle.std.specs.FinMap as map
 use Rattle.wal_shape.specs.declared.metadata.BlobId.{BlobId}

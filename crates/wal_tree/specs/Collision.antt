@@ -9,6 +9,6 @@ pub record IsCollision (digest : List ℕ → List ℕ) (one other : List ℕ) :
   pub differ : one ≢ other
   pub same : digest one ≡ digest other
 
--- it is impossible that no two texts of bytes have one digest
+-- it is impossible that no two different texts of bytes have one digest
 abbrev pub CanCollide : (List ℕ → List ℕ) → Type 0
 CanCollide digest = ((one other : List ℕ) → IsCollision digest one other → ⊥) → ⊥

@@ -20,7 +20,7 @@ height_within levels (suc zero) = 0
 height_within zero (suc (suc more)) = 0
 height_within (suc levels) (suc (suc more)) = height_within levels ((suc (suc more) + 1) / 2) + 1
 
--- how many levels stand above `count` leaves: the digests of a path
+-- how many levels stand above `count` leaves: the number of digests in a path
 unfoldable pub height : ℕ → ℕ
 height count = height_within count count
 
@@ -37,7 +37,7 @@ path_within digest (suc levels) place (first ∷ (second ∷ more)) =
 unfoldable pub path_of : (List ℕ → List ℕ) → List (List ℕ) → ℕ → List (List ℕ)
 path_of digest entries place = path_within digest (length entries) place entries
 
--- the bytes of the path from the piece at this place to the root over a content of whole pieces of
+-- the bytes of the path from the piece at this place to the root over content of whole pieces of
 -- `size` bytes
 abbrev pub path_over : (List ℕ → List ℕ) → ℕ → List ℕ → ℕ → List ℕ
 path_over digest size content place =
@@ -70,8 +70,8 @@ abbrev pub parent_text : ℕ → List ℕ → List ℕ → List ℕ
 parent_text place entry sibling =
     1 ∷ (if place % 2 == 0 then entry ++ sibling else sibling ++ entry)
 
--- of the texts that are digested on the ways up from two entries, at one place and along these
--- siblings, left and right are those of the lowest level at which the digests agree
+-- left and right are the texts, of those digested on the ways up from two entries at one place
+-- along these siblings, of the lowest level at which the digests agree
 abbrev pub MeetAbove : (List ℕ → List ℕ) → ℕ → List ℕ → List (List ℕ) → List ℕ → List (List ℕ)
     → List ℕ → List ℕ → Type 0
 MeetAbove digest place one (sibling ∷ more_one) other (other_sibling ∷ more_other) left right =
@@ -82,7 +82,7 @@ MeetAbove digest place one (sibling ∷ more_one) other (other_sibling ∷ more_
 MeetAbove digest place one siblings_x other siblings_y left right =
     (digest one ≡ digest other) × (left ≡ one) × (right ≡ other)
 
--- left and right are the texts of two leaves with these contents, at one place, where their digests
+-- left and right are the texts of two leaves with these contents, at one place, if their digests
 -- agree, and else those of the lowest level of their paths at which the digests agree
 abbrev pub MeetOnPaths : (List ℕ → List ℕ) → ℕ → List ℕ → List ℕ → List ℕ → List ℕ → List ℕ → List ℕ
     → Type 0

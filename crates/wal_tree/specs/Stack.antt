@@ -3,7 +3,7 @@
 use Rattle.std.specs.Prelude.{ℕ, List, [], ◌∷◌, ◌++◌, Option, Some, None}
 use Rattle.wal_tree.specs.Tree.{node, pair_up, root_of}
 
--- an entry that may be there, as a list
+-- an optional entry, as a list
 abbrev pub entries : Option (List ℕ) → List (List ℕ)
 entries None = []
 entries (Some entry) = entry ∷ []

@@ -44,6 +44,6 @@ pieces (suc count) size content = take size content ∷ pieces count size (drop 
 abbrev pub leaves : (List ℕ → List ℕ) → ℕ → ℕ → List ℕ → List (List ℕ)
 leaves digest count size content = map (leaf digest) (pieces count size content)
 
--- the root over a content of whole pieces of `size` bytes
+-- the root over content of whole pieces of `size` bytes
 abbrev pub root_over : (List ℕ → List ℕ) → ℕ → List ℕ → List ℕ
 root_over digest size content = root_of digest (leaves digest (length content / size) size content)

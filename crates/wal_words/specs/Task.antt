@@ -39,14 +39,14 @@ abbrev pub IsFormat : List ℕ → Format → Type 0
 IsFormat word One = word ≡ codes "1"
 IsFormat word Two = word ≡ codes "2"
 
--- the words spell a storage challenge: whose symbols, of which shard, by which beacon, and how many
+-- the words spell a storage challenge: the blob, the shard, the beacon and the number of symbols
 pub record IsAudit (word place beacon amount : List ℕ) (audit : Audit) : Type 0 where
   pub identifier : IsIdentifier word audit.id.0
   pub shard_number : IsNumber 0 999 place audit.shard
   pub beacon_bytes : IsBeacon beacon audit.beacon
   pub symbol_count : IsNumber 1 1000 amount audit.count
 
--- the values ask for this task, which takes what it wants of the options: a row for each command
+-- the values ask for this task, which takes the options that it needs: a row for each command
 pub data IsRow (options : Options) : List (List ℕ) → Task → Type 0 where
   identify : (word : List ℕ) (f : ℕ) → IsNumber 1 333 word f
       → IsRow options (codes "id" ∷ word ∷ []) (Whole (Identify f options.format))
@@ -86,18 +86,18 @@ pub data IsRow (options : Options) : List (List ℕ) → Task → Type 0 where
   gateway : (word : List ℕ) (capacity : ℕ) → IsNumber 1 64 word capacity
       → IsRow options (codes "gateway" ∷ word ∷ []) (Whole (Gateway capacity))
 
--- an option's number, in its range where it is given
+-- an option's number, in its range if it is given, and `missing` if not
 abbrev pub HasNumber : ℕ → ℕ → ℕ → Option (List ℕ) → ℕ → Type 0
 HasNumber missing least most None n = n ≡ missing
 HasNumber missing least most (Some word) n = IsNumber least most word n
 
--- the option's format, the first where none is given
+-- the option's format, or the first if none is given
 abbrev pub HasFormat : Option (List ℕ) → Format → Type 0
 HasFormat None format = format ≡ One
 HasFormat (Some word) format = IsFormat word format
 
--- the options that are given, each in its range: 1,024 blobs, 16,384 pages and the first format
--- where they are not
+-- the options that are given, each in its range; without them 1,024 blobs, 16,384 pages and the
+-- first format
 pub record HasOptions (blobs pages format : Option (List ℕ)) (options : Options) : Type 0 where
   pub blob_count : HasNumber 1024 1 65536 blobs options.blobs
   pub page_count : HasNumber 16384 1 262144 pages options.pages
@@ -116,6 +116,6 @@ pub record IsTask (words : List (List ℕ)) (task : Task) : Type 0 where
   pub asks : Asks (values_in words) (option_in (codes "blobs") words)
       (option_in (codes "pages") words) (option_in (codes "format") words) task
 
--- the words ask for nothing
+-- the words ask for no task
 abbrev pub NoTask : List (List ℕ) → Type 0
 NoTask words = (task : Task) → IsTask words task → ⊥

@@ -1,4 +1,4 @@
--- What a run comes to: how often each thing was told.
+-- The summary of a run: how often each thing was told.
 use Rattle.std.specs.Prelude.{◌≡◌, ℕ, ◌-◌, ◌^◌, min, List, length, sum_by, filter_map, Option, Some}
 use Rattle.std.specs.Prelude.{None, unwrap_or}
 use Rattle.std.specs.List.{reduce}
@@ -39,7 +39,7 @@ holders_in (line.Holders id (holders_word.Count count)) = Some count
 holders_in _ = None
 
 -- the summary of these lines; the sum of the bytes stays at the last number of 64 bits, and the
--- least number of holders is 0 where no line tells one
+-- least number of holders is 0 if no line tells one
 pub record IsSummary (lines : List Line) (summary : Summary) : Type 0 where
   pub events : summary.events ≡ length lines
   pub certified : summary.certified ≡ distinct_count id_eq (filter_map certified_in lines)
@@ -48,8 +48,8 @@ pub record IsSummary (lines : List Line) (summary : Summary) : Type 0 where
   pub recovered : summary.recovered ≡ length (filter_map sliver_in lines)
   pub least_holders : summary.least_holders ≡ unwrap_or (reduce min (filter_map holders_in lines)) 0
 
--- what the run of a schedule comes to: the summary of its lines, none of which is a collision, or
--- the collision with which it ends
+-- the result of a schedule's run: the summary of its lines, none of which is a collision, or the
+-- collision with which it ends
 abbrev pub IsSummed : (List ℕ → List ℕ) → Schedule → Summed → Type 0
 IsSummed digest schedule (summed.Whole summary) =
     (lines : List Line) × AreLines digest schedule lines × GoesOn lines × IsSummary lines summary

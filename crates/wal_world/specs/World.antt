@@ -2,8 +2,8 @@
 use Rattle.std.specs.Prelude.{ℕ, Bool}
 use Rattle.wal_protocol.specs.State.{World}
 
--- the state that a world keeps, and how many more entries of the ledger fit; whether it wanted
--- memory once, and whether two texts with one digest turned up
+-- the state that a world keeps, and how many more entries of the ledger fit; whether it once lacked
+-- memory, and whether two texts with one digest turned up
 pub record WorldState : Type 0 where
   pub state : World
   pub room : ℕ

@@ -23,7 +23,7 @@ message_to metadata id extended shard =
     Metadata metadata ∷ sliver_for metadata id extended Primary shard
     ∷ sliver_for metadata id extended Secondary shard ∷ []
 
--- the identifier of a blob, and those frames
+-- the identifier of a blob, and an honest writer's frames for each shard
 pub record IsMessageOf (digest : List ℕ → List ℕ) (f : ℕ) (format : Format)
     (blob : List ℕ) (id : BlobId) (message : ℕ → List Frame) : Type 0 where
   pub metadata : BlobMetadata
@@ -31,8 +31,8 @@ pub record IsMessageOf (digest : List ℕ → List ℕ) (f : ℕ) (format : Form
   pub identifier : id.0 ≡ identifier_of digest metadata
   pub frames : message ≡ message_to metadata id.0 is_metadata.0
 
--- what a writer has made of a blob: its identifier, its metadata, and the bytes of its extended
--- matrix, row by row
+-- a blob that was written: its identifier, its metadata, and the bytes of its extended matrix, row
+-- by row
 pub record Written : Type 0 where
   pub id : BlobId
   pub metadata : BlobMetadata

@@ -1,4 +1,4 @@
--- WHAT A CALL OF THE LIBRARY RETURNS: what a run of the words over the input comes to, and what
+-- WHAT A CALL OF THE LIBRARY RETURNS: the result of a run of the words over the input, and what
 -- stands in the room.
 use Rattle.std.specs.Prelude.{◌≡◌, ◌⊎◌, ℕ, ◌-◌, ◌^◌, ◌<◌, ◌≤◌, min, List, ◌++◌, length, take, drop}
 use Rattle.std.specs.Prelude.{Some, Ok}
@@ -15,7 +15,7 @@ use Rattle.wal_run.specs.Causes.{Causes, HasOneAnswer, IsExact}
 use Rattle.wal_run.specs.Replaying.{IsReport}
 use Rattle.walrus_c.specs.Words.{AreWords, AreNoWords}
 
--- what a run sees that begins with this input and ends with this rest of it, and writes this text
+-- what a run sees if it begins with this input, ends with this rest of it, and writes this text
 -- behind what stood in its sink; its source and its sink have no fault, so both counts stay at 0
 abbrev pub around : List ℕ → List ℕ → List ℕ → List ℕ → Around
 around input rest before text = record {
@@ -41,7 +41,7 @@ pub record Comes (digest : List ℕ → List ℕ) (words : List (List ℕ))
       → IsRead input (Ok schedule) → IsReport digest schedule status text
   -- what the status shows, by the table of causes
   pub causes : Causes digest words (around input rest before text) status
-  -- whatever answer the words and the input have was told, or a front of it for want of memory
+  -- whatever answer the words and the input have was told, or a prefix of it for want of memory
   pub exact : IsExact digest words (around input rest before text) status
   -- words that ask for nothing have the status of usage, but for want of memory
   pub nothing_asked : NoTask words → (status ≡ 2) ⊎ (status ≡ 5)
@@ -50,8 +50,8 @@ pub record Comes (digest : List ℕ → List ℕ) (words : List (List ℕ))
   -- the words and an input have at most one answer
   pub only : HasOneAnswer digest words
 
--- the text has its front in the room, and what stood in the room behind it stands there still; the
--- numbers say how much of the text is there, and how much there is of it
+-- the room begins with the text as far as it fits, and is otherwise unchanged; the numbers say how
+-- many bytes of the text are there, and how many it has
 pub record IsFilled (room new text : List ℕ) (written needed : ℕ) : Type 0 where
   pub front : new ≡ take (length room) text ++ drop (length text) room
   pub written_is : written ≡ min (length text) (length room)
@@ -77,13 +77,13 @@ pub data Returns (digest : List ℕ → List ℕ)
       → Comes digest words input status text
       → (status ≡ 5 → ⊥) → IsFilled room new text written needed → length room < length text
       → Returns digest text_of_words input room new written needed 7
-  -- 5: memory ran out in the run, whose text is then a front of the answer, or before it
+  -- 5: memory ran out in the run, whose text is then a prefix of the answer, or before it
   no_memory : (words : List (List ℕ)) → AreWords words text_of_words → (text : List ℕ)
       → Comes digest words input 5 text
       → IsFilled room new text written needed
       → Returns digest text_of_words input room new written needed 5
   no_memory_for_words : IsUntouched room new written needed
       → Returns digest text_of_words input room new written needed 5
-  -- 11: the words are none
+  -- 11: the text is no list of words
   no_words : AreNoWords text_of_words → IsUntouched room new written needed
       → Returns digest text_of_words input room new written needed 11

@@ -74,8 +74,8 @@ pub data Shows (digest : List ℕ → List ℕ) (words : List (List ℕ)) (strea
     → Type 0 where
   -- 2: the words ask for nothing
   usage : NoTask words → Shows digest words streams 201
-  -- 3: the evidence that a blob was badly encoded, or a proof that shows it; an index that is none;
-  -- the opening of a draw; a proof from openings
+  -- 3: the evidence that a blob was badly encoded, or a proof that shows it; a bad index; a wrong
+  -- opening for a draw; a proof from openings
   reject : (id : BlobId)
       → Found digest words streams (Read id)
       (λ recorded. (evidence : Evidence)
@@ -143,14 +143,14 @@ pub data Shows (digest : List ℕ → List ℕ) (words : List (List ℕ)) (strea
       → Found digest words streams (Whole (Bundle f))
       (λ members. Bundles f members (Err bundle.TooLong))
       → Shows digest words streams 410
-  -- a column that is needed, or a member of this number
+  -- no column that is needed, or no member of this number
   missing_column : (id : BlobId) (k j : ℕ)
       → Found digest words streams (Whole (Member id k)) (MemberIs digest id k (Missing j))
       → Shows digest words streams 411
   no_member : (id : BlobId) (k count : ℕ)
       → Found digest words streams (Whole (Member id k)) (MemberIs digest id k (NoMember count))
       → Shows digest words streams 412
-  -- a shard of this number, and its slivers
+  -- no shard of this number, or no sliver of it
   no_shard_to_challenge : (audit : Audit)
       → Found digest words streams (Whole (Challenge audit))
       (λ recorded. shard_count recorded.metadata.f ≤ audit.shard)
@@ -168,12 +168,12 @@ pub data Shows (digest : List ℕ → List ℕ) (words : List (List ℕ)) (strea
       × IsOwnSliver digest audit recorded Primary primary
       × HasNoSliver digest audit recorded Secondary)
       → Shows digest words streams 415
-  -- as many openings as draws
+  -- not as many openings as draws
   draw_count : (audit : Audit) (k : ℕ)
       → Found digest words streams (Whole (Verify audit))
       (λ recorded. HasShard audit recorded × ClaimsCome digest audit recorded (answer.WrongCount k))
       → Shows digest words streams 416
-  -- 5: memory ran out; 6 and 7: the source failed, the sink did
+  -- 5: memory ran out; 6 and 7: the source failed; the sink failed
   no_memory : Shows digest words streams 501
   source_failed : streams.SourceRose → Shows digest words streams 601
   sink_failed : streams.SinkRose → Shows digest words streams 701
@@ -184,7 +184,7 @@ pub data Shows (digest : List ℕ → List ℕ) (words : List (List ℕ)) (strea
   no_record : (place : ℕ)
       → Found digest words streams (Whole Unpack) (λ image. IsBrokenAt image place)
       → Shows digest words streams 801
-  -- what is no schedule
+  -- the input is no schedule
   not_json : (input : List ℕ) → Took digest words streams input → IsRead input (Err NotJson)
       → Shows digest words streams 802
   bad_schedule : (input : List ℕ) → Took digest words streams input → IsRead input (Err BadSchedule)

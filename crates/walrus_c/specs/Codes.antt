@@ -2,8 +2,7 @@
 use Rattle.std.specs.Prelude.{ℕ, List, [], ◌∷◌, codes, ◌&&◌, ◌==◌, nat_eq, if◌then◌else◌}
 use Rattle.std.specs.List.{starts_with}
 
--- a number, its status, and the words with which the text begins; no words where the text may be
--- any
+-- a number, its status, and the words with which the text begins; no words if the text may be any
 abbrev pub Row : Type 0
 Row = ℕ × ℕ × List ℕ
 
@@ -13,7 +12,7 @@ first_code [] status text = 0
 first_code (row ∷ rows) status text =
     if row.1 == status && starts_with nat_eq text row.2 then row.0 else first_code rows status text
 
--- THE TABLE, a row for each refusal; a number is never given to another one
+-- THE TABLE, a row for each refusal; a number is never reused for another one
 unfoldable pub refusals : List Row
 refusals =
     -- the usage
@@ -53,7 +52,7 @@ refusals =
     ∷ (804, 8, codes "too many events\n")
     ∷ (805, 8, codes "bad event ")
     ∷ (806, 8, [])
-    -- the input is too long; two texts have one digest; the words are none
+    -- the input is too long; two texts have one digest; the text is no list of words
     ∷ (901, 9, [])
     ∷ (1001, 10, [])
     ∷ (1101, 11, [])

@@ -1,4 +1,4 @@
--- How many bytes all envelopes of a blob have.
+-- How many bytes all envelopes of a blob have together.
 use Rattle.std.specs.Prelude.{ℕ, ◌+◌, ◌*◌}
 use Rattle.wal_shape.specs.declared.shape.Format.{Format}
 use Rattle.wal_shape.specs.Shape.{column_count, row_count, shard_count, symbol_size}

@@ -70,16 +70,16 @@ fetched_most taken = one_line + (34 + 2 * min taken most_bytes) * (taken / 48)
 abbrev pub two_texts : ℕ
 two_texts = 140
 
--- the most bytes of what a shard answers that took so many bytes: 17 to each envelope, none of
+-- the most bytes of the answers of a shard that took so many bytes: 17 to each envelope, none of
 -- which has fewer than seven; to each request for parts of a blob, none of which has fewer than 40,
 -- besides what it holds of the blob, which is no more than what was taken, nor than its longest
--- reply, and where it opens a sliver at most 323 more; and two texts that collide at the end
+-- reply, and, if it opens a sliver, at most 323 more; and two texts that collide at the end
 abbrev pub served_most : ℕ → ℕ → ℕ
 served_most f taken =
     two_texts + 17 * (taken / 7) + (323 + min taken (shard.room_of f)) * (taken / 40)
 
--- by the command of a task that takes its whole input at once, and how many bytes the input has;
--- none for a replay, as the two texts of a collision that ends one are of no certain length
+-- the room by the command of a task that takes its whole input at once, and how many bytes the
+-- input has; none for a replay, as the two texts of a collision that ends one may be of any length
 abbrev pub whole_room : WholeTask → ℕ → ℕ
 whole_room (Identify f format) count = name_line
 whole_room (Encode f format) count = encoded_bytes f format (min count most_bytes)
@@ -94,7 +94,7 @@ whole_room (Challenge audit) count = audit.count * opening_most count
 whole_room (Verify audit) count = one_line
 whole_room (Gateway capacity) count = fetched_most (min count most_taken)
 
--- THE TABLE: by the command of a task; a sample is a replay
+-- THE TABLE: the room by the command of a task; a sample is a replay
 abbrev pub room_of : Task → ℕ → ℕ
 room_of (Whole task) count = whole_room task count
 room_of (Read id) count = read_most count
@@ -106,15 +106,15 @@ pub data IsRoom (text_of_words : List ℕ) (count : ℕ) : ℕ → Type 0 where
   -- that of the task for which they ask
   asked : (words : List (List ℕ)) → AreWords words text_of_words → (task : Task) → IsTask words task
       → IsRoom text_of_words count (room_of task count)
-  -- the usage's bytes, where they ask for nothing
+  -- the usage's bytes, if they ask for nothing
   nothing_asked : (words : List (List ℕ)) → AreWords words text_of_words → NoTask words
       → IsRoom text_of_words count (length usage_text)
-  -- none, where the text is no words
+  -- none, if the text is no list of words
   no_words : AreNoWords text_of_words → IsRoom text_of_words count none_given
-  -- want of memory, where that ran out while they were read; it is no room, and no 'none'
+  -- want of memory, if that ran out while they were read; it is no room, and no 'none'
   no_memory : IsRoom text_of_words count no_memory_told
 
--- where a room is given, it suffices: whatever input of so many bytes the words are run over, and
+-- if a room is given, it suffices: whatever input of so many bytes the words are run over, and
 -- however the run ends, its text has no more bytes
 abbrev pub Suffices : (List ℕ → List ℕ) → List ℕ → ℕ → ℕ → Type 0
 Suffices digest text_of_words count room =

@@ -54,10 +54,19 @@ class Blob:
                 return epoch, len(shards)
         return None
 
-    def voted(self, kind: str, epoch: int, shards: frozenset[int]) -> "Blob":
-        """This blob once these shards said so too."""
+    def voted(self, kind: str, epoch: int, shards: frozenset[int], needed: int) -> "Blob":
+        """This blob once these shards said so too, without what counts no more then; so many are a quorum."""
         said = self.votes[kind].get(epoch, frozenset()) | shards
-        return Blob(self.until, self.poster, {**self.votes, kind: {**self.votes[kind], epoch: said}})
+        blob = Blob(self.until, self.poster, {**self.votes, kind: {**self.votes[kind], epoch: said}})
+        first, _ = blob.quorum(kind, needed) or (None, 0)
+        return Blob(self.until, self.poster, {**self.votes, kind: counting(blob.votes[kind], first)})
+
+
+def counting(votes: Mapping[int, frozenset[int]], first: Optional[int]) -> dict[int, frozenset[int]]:
+    """Of the votes of a kind those that the rules may ask for still: the ones of the first epoch with a quorum, and of
+    the last two that have any, which may be the epochs of both committees. An earlier one gets no more votes, and so no
+    quorum. This depends on the votes alone: what is left out with each vote, or at last, is the same."""
+    return {epoch: said for epoch, said in votes.items() if epoch == first or epoch >= max(votes) - 1}
 
 
 def coded(votes: Mapping[int, frozenset[int]]) -> dict[int, int]:
@@ -73,6 +82,20 @@ def decoded(votes: dict[str, int]) -> dict[int, frozenset[int]]:
 def blob_of(until: int, poster: str, votes: str) -> Blob:
     acks, attests = map(decoded, json.loads(votes))
     return Blob(until, poster, {ACK: acks, ATTEST: attests})
+
+
+def text_of(votes: Votes) -> str:
+    return json.dumps([coded(votes[kind]) for kind in (ACK, ATTEST)], separators=(",", ":"))
+
+
+def without_past(row: Row) -> Row:
+    """A row of a checkpoint as it is written now: former versions wrote all votes, also those that count no more."""
+    identifier, number, until, poster, votes, certified, invalid = row
+    if votes.count(":") < 2:  # they are of one epoch, as nearly always
+        return row
+    said = blob_of(until, poster, votes).votes
+    votes = text_of({ACK: counting(said[ACK], certified), ATTEST: counting(said[ATTEST], invalid)})
+    return identifier, number, until, poster, votes, certified, invalid
 
 
 def ending_of(name: str, *words: object) -> list[bytes]:
@@ -131,9 +154,8 @@ class Blobs(Mapping[bytes, Blob]):
 
     def row(self, identifier: bytes, number: int) -> Row:
         blob = self[identifier]
-        votes = json.dumps([coded(blob.votes[kind]) for kind in (ACK, ATTEST)], separators=(",", ":"))
         first = [(blob.quorum(kind, self.needed) or (None,))[0] for kind in (ACK, ATTEST)]
-        return identifier, number, blob.until, blob.poster, votes, first[0], first[1]
+        return identifier, number, blob.until, blob.poster, text_of(blob.votes), first[0], first[1]
 
     def names(self, words: str, *values: object) -> list[bytes]:
         """The identifiers that are selected so."""
@@ -215,7 +237,7 @@ class Blobs(Mapping[bytes, Blob]):
         for name in DERIVED:
             self.base.execute(f"DROP {name}")
         self.base.execute("UPDATE blobs SET until = -1")
-        self.base.executemany(PUT, rows)
+        self.base.executemany(PUT, map(without_past, rows))
         self.make()
         self.base.execute("DELETE FROM counts")
         self.base.execute(COUNT_ALL)

@@ -2,11 +2,13 @@
 import os
 import pathlib
 import re
+import ssl
 import stat
 from typing import Any
 
-from . import certificates
+from . import certificates, units
 from .configuration import Role, Wrong, faults_in, located, values_of
+from .machine import is_known_to_tls
 from .settings import GatewaySettings, RecorderSettings, Settings
 
 KINDS: tuple[type[Role], ...] = (Settings, RecorderSettings, GatewaySettings)
@@ -24,10 +26,10 @@ def check(path: pathlib.Path) -> tuple[str, list[str], list[str]]:
     if role not in ROLES:
         return "", [f"it has no role, which is {' or '.join(ROLES)}"], []
     faults, kind = faults_in(ROLES[role], values), ROLES[role]
-    told = {**values, **{it: located(path, values[it]) for it in kind.paths if isinstance(values.get(it), str)}}
     if faults:
         return role, faults, []
-    faults += faults_of_places(told) + faults_of_files(told) + faults_of_keys(told)
+    told = {**values, **{it: located(path, values[it]) for it in kind.paths if values.get(it)}}
+    faults += faults_of_places(told) + faults_of_files(told) + faults_of_keys(told) + faults_of_https(told)
     pairs = [("authority", "certificate", "key", told["name"])]
     pairs += [("etcd_authority", "etcd_certificate", "etcd_key", None)] if "etcd" in told else []
     soon = []
@@ -35,7 +37,7 @@ def check(path: pathlib.Path) -> tuple[str, list[str], list[str]]:
         own, secret, signer = (pathlib.Path(told[it]) for it in (certificate, key, authority))
         faults += certificates.faults_of(own, secret, signer, name)
         soon += [it for it in map(ends_soon, (own, signer)) if it]
-    return role, faults, soon
+    return role, faults, soon + units.warnings(path, role, told)
 
 
 def ends_soon(path: pathlib.Path) -> str:
@@ -56,6 +58,8 @@ def faults_of_places(told: dict[str, Any]) -> list[str]:
     faults += [f"port {told['port']} is none"] if not 0 <= told.get("port", 0) < 65_536 else []
     if not re.fullmatch(r"(.*:)?\d{1,5}|", told.get("metrics", "")):
         faults.append(f"metrics {told['metrics']} is no PORT, and not HOST:PORT")
+    if "database" in told and not is_known_to_tls(told["name"]):
+        faults.append(f"nobody reaches a node called {told['name']}: between dots a name has 1 to 63 letters")
     if "etcd" in told and not told["etcd"].startswith("https://"):
         faults.append("etcd is a URL with https")
     return faults
@@ -79,6 +83,23 @@ def faults_of_keys(told: dict[str, Any]) -> list[str]:
     """Which keys anyone on this machine may read, as they come from a stick that keeps no modes."""
     keys = [pathlib.Path(told[it]) for it in ("key", "etcd_key", "tls_key") if told.get(it)]
     return [f"anyone on this machine may read {it}: chmod 600 {it}" for it in keys if is_open(it)]
+
+
+def faults_of_https(told: dict[str, Any]) -> list[str]:
+    """What is wrong with the certificate for HTTPS and its key, which authorities of others have signed."""
+    names = [told[it] for it in ("tls_certificate", "tls_key") if told.get(it)]
+    if len(names) < 2:
+        return ["tls_certificate and tls_key go together"] if names else []
+    own, key = map(pathlib.Path, names)
+    try:
+        found, _ = certificates.read(own), key.read_bytes()
+        ssl.SSLContext(ssl.PROTOCOL_TLS_SERVER).load_cert_chain(own, key, password="")
+    except ssl.SSLError as fault:
+        return [f"{key} is not the key of {own}, or has a password: {fault}"]
+    except (OSError, ValueError) as fault:
+        return [str(fault)]
+    left = certificates.days_left(found)
+    return [f"{own} has expired on {found.not_valid_after:%Y-%m-%d}"] if left < 0 else []
 
 
 def is_open(path: pathlib.Path) -> bool:

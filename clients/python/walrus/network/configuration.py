@@ -2,6 +2,7 @@
 
 A file is TOML whose `role` says what for; a dataclass has its other names. Paths are relative to the file."""
 import dataclasses
+import ipaddress
 import json
 import os
 import pathlib
@@ -20,6 +21,9 @@ class Role(Protocol):
 
 Kind = TypeVar("Kind", bound=Role)
 WORDS = {str: "a text", int: "a whole number", float: "a number", bool: "true or false"}
+# The least of numbers by their names; of all others it is 0. With less a service would ask without a pause (probe), or
+# take the ledger for away between two words of a recorder, which come each second (stale), or wait for ever.
+LEAST = {"scrub_rate": 1, "connections": 1, "uploads": 1, "turns": 1, "epochs": 1, "probe": 0.1, "stale": 2}
 
 
 class Wrong(ValueError):
@@ -49,6 +53,26 @@ def values_of(path: pathlib.Path) -> dict[str, Any]:
     return values
 
 
+def is_address(text: str) -> bool:
+    """Whether a text is an address as it is told of a connection."""
+    try:
+        return str(ipaddress.ip_address(text)) == text
+    except ValueError:
+        return False
+
+
+def faults_of_values(values: Mapping[str, Any]) -> list[str]:
+    """Which settings no service can have, though they are of their types."""
+    faults = []
+    for name, value in values.items():
+        if type(value) in (int, float) and not value >= LEAST.get(name, 0):
+            faults.append(f"{name} must be at least {LEAST.get(name, 0)}, not {value}")
+    if not values.get("reserve", 0) < 1:
+        faults.append(f"reserve is a fraction of the disk, below 1, and not {values['reserve']}")
+    bad = [it for it in values.get("proxies", []) if not is_address(it)]
+    return faults + [f"proxies are addresses, such as 10.0.0.1 or fd00::1, and not {it}" for it in bad]
+
+
 def faults_in(kind: type[Role], values: Mapping[str, Any]) -> list[str]:
     """What is wrong with the settings of a role, beside what stands in the files that they name."""
     fields = {field.name: field for field in dataclasses.fields(kind)}
@@ -58,15 +82,18 @@ def faults_in(kind: type[Role], values: Mapping[str, Any]) -> list[str]:
         [] if values.get("role", kind.role) == kind.role else [f"it is for the role {values['role']}, not {kind.role}"]
     )
     faults += [f"{name} is no setting of a {kind.role}" for name in values if name not in (*fields, "role")]
-    faults += [f"{name} is missing" for name in needed if name not in values]
+    faults += [f"{name} is missing" for name in needed if values.get(name) in (None, "")]
     for name, field in fields.items():
         if name in values and not fits(values[name], field.type):
             faults.append(f"{name} must be {words_of(field.type)}, not {json.dumps(values[name], default=str)[:80]}")
-    return faults
+    return faults or faults_of_values(values)
 
 
 def located(path: pathlib.Path, text: str) -> str:
-    """Where a file of settings means; a secret that the service manager has handed over is where it put it."""
+    """Where a file of settings means; a secret that the service manager has handed over is where it put it. Standard
+    output (-) has no place."""
+    if text == "-":
+        return text
     given = os.environ.get("CREDENTIALS_DIRECTORY")
     if given and (secret := pathlib.Path(given, pathlib.Path(text).name)).exists():
         return str(secret)

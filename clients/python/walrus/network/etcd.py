@@ -5,8 +5,9 @@ import contextlib
 import dataclasses
 import functools
 import json
+import re
 import ssl
-from typing import Any, Callable, Optional
+from typing import Any, Callable, Coroutine, Optional, TypeVar
 
 import aiohttp
 
@@ -15,9 +16,12 @@ from .entries import Chain
 
 FIRST, LAST, HEAD = "/walrus/000000000001", "/walrus/999999999999", "/walrus/head"
 MARK, PIECES = "/walrus/checkpoint", "/walrus/checkpoint/"
+DEFRAGMENTING, TURN = "/walrus/defragmenting", 600  # whose turn it is, and for how many seconds at most
 PAGE, SILENCE, LONGEST_LINE = 16, 60.0, 2**20  # batches that are read at once; seconds; bytes
 WIDTHS = 64, 4_096, 262_144  # places among which the key of a batch is looked for: etcd would sort all there are
 COMPACTED, DROPPED = 5_000, 500  # revisions between two compactions; keys that are dropped at once
+QUOTA = re.compile(r"^etcd_server_quota_backend_bytes (\S+)$", re.MULTILINE)
+T = TypeVar("T")
 
 
 class Failed(ConnectionError):
@@ -100,7 +104,7 @@ class Etcd:
         self.url, self.aclose, self.revision, self.compacted = url, self.session.close, 0, 0
 
     async def call(self, path: str, body: dict[str, Any], seconds: float = 10) -> dict[str, Any]:
-        """One call, in a task of its own, as deadlines of aiohttp 3.8 disturb those of asyncio around them."""
+        """One call of etcd's JSON gateway."""
 
         async def ask() -> dict[str, Any]:
             limit = aiohttp.ClientTimeout(total=seconds)
@@ -110,8 +114,12 @@ class Etcd:
                 raise OSError(answer.get("error", answer))
             return dict(answer)
 
+        return await self.asked(ask())
+
+    async def asked(self, work: Coroutine[Any, Any, T]) -> T:
+        """What etcd answers, in a task of its own, as deadlines of aiohttp 3.8 disturb those of asyncio around them."""
         try:
-            return await asyncio.create_task(ask())
+            return await asyncio.create_task(work)
         except (aiohttp.ClientError, OSError, TimeoutError, ValueError) as fault:
             raise Failed(f"etcd at {self.url} does not answer: {fault or 'it is too slow'}") from fault
 
@@ -120,12 +128,15 @@ class Etcd:
         span = {"key": coded(first), **({"range_end": coded(last)} if last else {}), **words}
         return list((await self.call("kv/range", span)).get("kvs", []))
 
-    async def replace(self, key: str, old: str, puts: dict[str, str], *others: str) -> tuple[str, list[dict[str, Any]]]:
+    async def replace(
+        self, key: str, old: str, puts: dict[str, str], *others: str, lease: str = "0"
+    ) -> tuple[str, list[dict[str, Any]]]:
         """Puts values where a key has an old one, or none if that is empty; what it has then, and where it had another
-        one, some pairs from other keys on."""
+        one, some pairs from other keys on. With a lease, what is put goes when that ends."""
         compare = {"target": "VALUE", "value": coded(old)} if old else {"target": "CREATE", "create_revision": "0"}
         words: dict[str, Any] = {"compare": [{"key": coded(key), "result": "EQUAL", **compare}]}
-        words["success"] = [{"request_put": {"key": coded(it), "value": coded(puts[it])}} for it in puts]
+        pairs = [{"key": coded(it), "value": coded(puts[it]), "lease": lease} for it in puts]
+        words["success"] = [{"request_put": it} for it in pairs]
         spans = [{"key": coded(it), "range_end": coded(LAST), "limit": PAGE} for it in others]
         words["failure"] = [{"request_range": it} for it in ({"key": coded(key)}, *spans)]
         answer = await self.call("kv/txn", words)
@@ -195,14 +206,33 @@ class Etcd:
             with contextlib.suppress(Failed):  # another recorder has done so
                 await self.call("kv/compaction", {"revision": str(self.revision)})
 
+    async def quota(self) -> float:
+        """The bytes of its file above which the member beside this appends nothing, one of the numbers that it tells to
+        Prometheus."""
+
+        async def ask() -> float:
+            limit = aiohttp.ClientTimeout(total=10)
+            async with self.session.get(f"{self.url}/metrics", timeout=limit) as said:
+                found = QUOTA.search(await said.text())
+            if not found:
+                raise OSError("/metrics does not tell its quota")
+            return float(found[1])
+
+        return await self.asked(ask())
+
     async def sizes(self) -> tuple[int, int]:
         """The bytes of the file of the member beside this, and those of them that are in use."""
         told = await self.call("maintenance/status", {})
         return int(told.get("dbSize", 0)), int(told.get("dbSizeInUse", 0))
 
     async def defragment(self) -> None:
-        """Has that member give back what is not in use. It answers nobody else meanwhile."""
-        await self.call("maintenance/defragment", {}, 60)
+        """Has that member give back what is not in use, unless it is another one's turn: it answers nobody else
+        meanwhile. If it does not say in time that it has done so, it may still be at it, and keeps its turn."""
+        lease = str((await self.call("lease/grant", {"TTL": str(TURN)}))["ID"])
+        holder, _ = await self.replace(DEFRAGMENTING, "", {DEFRAGMENTING: lease}, lease=lease)
+        if holder == lease:
+            await self.call("maintenance/defragment", {}, 60)
+        await self.call("lease/revoke", {"ID": lease})
 
     async def watch(self, hear: Callable[[str], None]) -> None:
         """Tells what stands at the head soon after it is another one: a hint, as what is missed is asked for anyway."""

@@ -6,12 +6,12 @@ import dataclasses
 import json
 import pathlib
 import shutil
-from typing import Any, Iterable, Sequence
+from typing import Any, Iterable, Optional, Sequence
 
 from . import TOP, certificates
 from .checked import written_whole
-from .entries import LONGEST, MOST_FAULTS, NAME, OPERATOR, entry_key
-from .machine import AUTHORITY, ETCD_AUTHORITY, KEPT, Machine, Place, Unfounded
+from .entries import HOST, LONGEST, MOST_FAULTS, OPERATOR, entry_key
+from .machine import AUTHORITY, ETCD_AUTHORITY, KEPT, Machine, Place, Unfounded, can_be_named
 
 PLAN = "network.json"
 RECORDER_PORT, GATEWAY_PORT, CLIENTS, MEMBERS = 31_416, 31_415, 2_379, 2_380
@@ -38,6 +38,25 @@ def must_fit(faults: int, places: Sequence[Place], concentrated: bool) -> None:
             raise Unfounded(f"{text}: use more machines, or say --concentrated")
 
 
+def must_be_named(
+    nodes: Sequence[Place], gateways: Sequence[Place], users: Sequence[str], known: Iterable[str] = ()
+) -> None:
+    """Raises where one of these cannot have its name, or where two would have one, be it in another case, as TLS takes
+    one for the other. `known` is there already."""
+    for name in users:
+        if not can_be_named(name) or name.lower() in KEPT and name != OPERATOR:
+            raise Unfounded(f"{name} cannot be a user's name")
+    for place in nodes:
+        if not HOST.fullmatch(place.host):
+            raise Unfounded(f"{place.name}: the ledger takes no address of a machine called {place.host}")
+    there, names = {*map(str.lower, known)}, [*users, *(it.name for it in [*nodes, *gateways])]
+    for name in names:
+        if name.lower() in there:
+            raise Unfounded(f"{name} is there already")
+    if len({*map(str.lower, names)}) < len(names):
+        raise Unfounded("each node, gateway and user has a name of its own")
+
+
 def write_plan(folder: pathlib.Path, plan: dict[str, Any]) -> None:
     """Writes a plan in place of the one before, which stays if the disk does not take it."""
     with written_whole(str(folder / PLAN)) as out:
@@ -53,29 +72,28 @@ def remove_folder(folder: pathlib.Path) -> None:
 class Founding:
     """The folder of who founds a network: it need not be on any of its machines."""
 
-    def __init__(self, folder: pathlib.Path):
+    def __init__(self, folder: pathlib.Path, plan: Optional[dict[str, Any]] = None):
         self.folder = folder
         path = folder / PLAN
-        if not path.exists():
+        if plan is None and not path.exists():
             raise Unfounded(f"{folder} has no {PLAN}: walrus-net found makes it")
-        self.plan: dict[str, Any] = json.loads(path.read_text())
+        self.plan: dict[str, Any] = json.loads(path.read_text()) if plan is None else plan
         if "hosts" not in self.plan:
             raise Unfounded(f"{folder} is a network on one machine: network/up --add adds its nodes")
 
     @classmethod
     def begin(cls, folder: pathlib.Path, plan: dict[str, Any], days: float) -> "Founding":
-        """Makes a folder with the authorities and the operator."""
+        """Makes a folder with the authorities. It has a network once the plan is saved."""
         if (folder / PLAN).exists():
             raise Unfounded(f"{folder} has a network already")
         folder.mkdir(parents=True, mode=0o700, exist_ok=True)
         for name in (AUTHORITY, ETCD_AUTHORITY):
             certificates.make_authority(folder / name, days)
-        write_plan(folder, {**plan, "hosts": {}})
-        return cls(folder)
+        return cls(folder, {**plan, "hosts": {}})
 
     def save(self) -> None:
-        """Writes the plan, to the folders of users too."""
-        for path in [self.folder, *(self.folder / "users").glob("*")]:
+        """Writes the plan, to the folders of users too, and last where it counts."""
+        for path in [*(self.folder / "users").glob("*"), self.folder]:
             write_plan(path, self.plan)
 
     def machine(self, host: str, *services: str) -> Machine:
@@ -90,29 +108,28 @@ class Founding:
     def nodes(self) -> list[Place]:
         return [Place(name, *it) for name, it in self.plan["nodes"].items()]
 
-    def must_be_new(self, name: str) -> None:
-        """Raises where something has a name already, be it in another case, as TLS takes one for the other."""
-        names = [*self.plan["nodes"], *self.plan["gateways"], *self.plan["users"]]
-        if name.lower() in map(str.lower, names):
-            raise Unfounded(f"{name} is there already")
+    def add(self, nodes: Sequence[Place], gateways: Sequence[Place], users: Sequence[str]) -> None:
+        """Makes what these have, once all of them can be named, and saves the plan."""
+        must_be_named(nodes, gateways, users, [*self.plan["nodes"], *self.plan["gateways"], *self.plan["users"]])
+        for place in nodes:
+            self.add_node(place)
+        for place in gateways:
+            self.add_gateway(place)
+        for name in users:
+            self.add_user(name)
+        self.save()
 
     def add_node(self, place: Place) -> None:
-        self.must_be_new(place.name)
         self.plan["nodes"][place.name] = [place.host, place.port, place.shards]
         self.machine(place.host, f"walrus-node@{place.name}").node(place)
 
     def add_gateway(self, place: Place) -> None:
-        self.must_be_new(place.name)
         self.plan["gateways"][place.name] = [place.host, place.port]
         self.machine(place.host, f"walrus-gateway@{place.name}").gateway(place)
 
     def add_user(self, name: str) -> None:
-        into = self.folder / "users" / name
-        if not NAME.fullmatch(name) or name.lower() in KEPT and name != OPERATOR:
-            raise Unfounded(f"{name} cannot be a user's name")
-        self.must_be_new(name)
         self.plan["users"].append(name)
-        Machine(self.folder, into, "", "", self.plan).sign(name, name, name)
+        Machine(self.folder, self.folder / "users" / name, "", "", self.plan).sign(name, name, name)
 
     def remove(self, name: str) -> str:
         """Forgets a node, a gateway or a user, and its key; where it was. Its files may be gone already, if the plan
@@ -134,20 +151,23 @@ class Founding:
         raise Unfounded(f"{name} is no node, gateway or user of {self.folder}")
 
     def renew(self, named: Sequence[str], within: float, days: float) -> list[pathlib.Path]:
-        """Makes certificates anew: those named, or those that end within so many days; the paths that changed."""
+        """Makes certificates anew: those named, or those that end within so many days; the paths that changed. A copy
+        of an authority that is not the one here is replaced in any case: a run before may have been interrupted."""
         changed = []
         for name in (AUTHORITY, ETCD_AUTHORITY):
             path = self.folder / f"{name}.crt"
             if name in named or not named and certificates.days_left(certificates.read(path)) < within:
                 certificates.make_authority(path.with_suffix(""), certificates.AUTHORITY_DAYS)
-                copies = [*self.folder.glob(f"hosts/*/{name}.crt"), *self.folder.glob(f"users/*/{name}.crt")]
-                for copy in copies:
-                    shutil.copyfile(path, copy)
-                changed += [path, *copies]
+                changed.append(path)
+            for copy in [*self.folder.glob(f"hosts/*/{name}.crt"), *self.folder.glob(f"users/*/{name}.crt")]:
+                if copy.read_bytes() != path.read_bytes():
+                    with written_whole(str(copy)) as out:
+                        out.write(path.read_bytes())
+                    changed.append(copy)
         for path in sorted([*self.folder.glob("hosts/*/*.crt"), *self.folder.glob("users/*/*.crt")]):
-            old = certificates.read(path)
             if path.stem in (AUTHORITY, ETCD_AUTHORITY):
                 continue
+            old = certificates.read(path)
             if path.stem in named or not named and certificates.days_left(old) < within:
                 by = ETCD_AUTHORITY if path.stem == "etcd" else AUTHORITY
                 known, name = certificates.names_of(old), certificates.common_name(old)
@@ -164,9 +184,8 @@ def found(folder: pathlib.Path, faults: int, ledger: Sequence[str], nodes: Seque
     must_fit(faults, places, words.concentrated)
     if not recorders or len({it.host for it in recorders}) < len(recorders):
         raise Unfounded("name the machines of the ledger, each once: an odd number of them")
-    names = [OPERATOR, *words.users, *(it.name for it in [*places, *gateways])]
-    if len({it.lower() for it in names}) < len(names):
-        raise Unfounded("each node, gateway and user has a name of its own")
+    users = [OPERATOR, *words.users]
+    must_be_named(places, gateways, users)
     urls = {
         it.host: [f"https://127.0.0.1:{CLIENTS}", f"https://{dataclasses.replace(it, port=MEMBERS).address}"]
         for it in recorders
@@ -178,11 +197,5 @@ def found(folder: pathlib.Path, faults: int, ledger: Sequence[str], nodes: Seque
         machine = made.machine(place.host, "walrus-etcd", "walrus-recorder")
         machine.etcd(name, place, urls)
         machine.recorder(place, urls[name][0])
-    for place in places:
-        made.add_node(place)
-    for place in gateways:
-        made.add_gateway(place)
-    for name in (OPERATOR, *words.users):
-        made.add_user(name)
-    made.save()
+    made.add(places, gateways, users)
     return made

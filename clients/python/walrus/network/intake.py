@@ -49,7 +49,7 @@ class Intake:
                 return [answer(FULL)]  # the judge was told of parts that the disk has lost meanwhile
         if code_of(said) not in client.COUNTS:
             return said
-        if not ledger.voted(ACK, identifier, node.name):
+        if not ledger.voted(ACK, identifier, node.name) and not ledger.certified_before(identifier, shard.epoch):
             self.give_word(shard, identifier)
         return [answer(client.DONE)]
 

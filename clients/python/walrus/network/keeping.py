@@ -16,6 +16,7 @@ from .recorder import Recorder
 
 PAUSE, IDLE = 5.0, 30.0  # seconds between two looks; without an entry, until etcd gives back what it has free
 TRIES = 10  # to put a piece of a checkpoint
+FULL = 0.75  # of etcd's quota: the rest has room for what comes while entries are dropped, and for the next checkpoint
 SLACK = 67_108_864  # bytes that etcd may have free
 
 
@@ -25,6 +26,7 @@ class Keeper:
     def __init__(self, recorder: Recorder, patience: float):
         self.recorder, self.etcd, self.patience = recorder, recorder.etcd, patience
         self.said, self.dropped = "", 0  # the place up to which nothing is known here any more
+        self.seen = dict[int, float]()  # when the checkpoint of a place was first seen, by the monotonic clock
 
     async def run(self) -> None:
         while True:
@@ -43,7 +45,7 @@ class Keeper:
         recorder, mark = self.recorder, await self.etcd.mark()
         now = time.monotonic()
         if mark and not mark.dropped:
-            if self.is_over(mark):
+            if self.is_over(mark) or await self.is_full():
                 await self.etcd.put_mark(mark._replace(dropped=True), mark)
         elif mark and mark.place > self.dropped:
             await self.etcd.drop(mark)  # each recorder does so, as who has put the mark may have ended behind it
@@ -58,10 +60,19 @@ class Keeper:
 
     def is_over(self, mark: Mark) -> bool:
         """Whether all nodes of both committees have told that they are past a checkpoint, which a recorder knows that
-        has read so far, or it was too long."""
-        ledger, late = self.recorder.ledger, time.time() > mark.time + self.patience
+        has read so far, or it was too long: also by a clock of its own, as that of who has written it may have been
+        ahead."""
+        ledger, seen = self.recorder.ledger, self.seen.setdefault(mark.place, time.monotonic())
+        late = time.time() > mark.time + self.patience or time.monotonic() > seen + self.patience
         has_read = self.recorder.chain.place >= mark.place
-        return late or has_read and all(ledger.past.get(it, 0) >= mark.epoch for it in ledger.nodes)
+        waited = [it for it in ledger.nodes if it not in ledger.expelled]  # nobody hears who is expelled
+        return late or has_read and all(ledger.past.get(it, 0) >= mark.epoch for it in waited)
+
+    async def is_full(self) -> bool:
+        """Whether etcd has so much that no node is waited for any longer: above its quota nothing could be appended,
+        and no checkpoint marked as dropped."""
+        _, used = await self.etcd.sizes()
+        return used > FULL * await self.etcd.quota()
 
     async def write(self, before: Optional[Mark]) -> None:
         """Writes a checkpoint of what the ledger is now; the mark last, so that nobody finds half of it, and only where

@@ -15,6 +15,7 @@ from .entries import ACK, ADDRESS, ATTEST, LAST_EPOCH, LAST_UNTIL, OPERATOR, PAS
 __all__ = ["ACK", "ADDRESS", "ATTEST", "LAST_UNTIL", "OPERATOR", "PAST", "REGISTER", "Entry", "Ledger", "entry_key"]
 ORDERS = "begin", "share", "expel", "concentrated", "calendar"  # what only the operator says
 ROOM = 1_048_576  # entries that a poster's registrations of an epoch may cause, each node's word among them
+ADDRESSES = 64  # of a name in an epoch: a node tells one at each start, if it is another one than before
 FORMLESS = "it has not the form of an entry"
 REFUSED = {  # entries that change nothing: the first word of their line, and what their poster is told
     "refused past": "that epoch is past",
@@ -51,6 +52,7 @@ class Ledger:
         self.ready, self.blobs = frozenset[int](), Blobs() if blobs is None else blobs
         self.posted, self.shares = collections.Counter[str](), dict[str, int]()  # registrations, and who may have more
         self.expelled, self.addresses = frozenset[str](), dict[str, tuple[str, int]]()
+        self.addressed = collections.Counter[str]()  # how many addresses of each name counted in this epoch
         self.past, self.concentrated = dict[str, int](), -1  # who has an epoch on its disk; who may be uneven
         self.calendar = 0, 0, 0  # an epoch, the minute since 1970 in which it begins, and how many each has; 0: no plan
 
@@ -87,6 +89,12 @@ class Ledger:
         blob = self.blobs.get(identifier)
         return blob.quorum(ACK, self.quorum) if blob else None
 
+    def certified_before(self, identifier: bytes, epoch: int) -> int:
+        """How many shards acknowledged a blob when it was certified before an epoch, in which nobody need do so again;
+        none if it was not."""
+        first, count = self.certificate(identifier) or (epoch, 0)
+        return count if first < epoch else 0
+
     def invalid(self, identifier: bytes) -> bool:
         blob = self.blobs.get(identifier)
         return bool(blob and blob.quorum(ATTEST, self.quorum))
@@ -120,7 +128,7 @@ class Ledger:
         made = copy.copy(self)
         made.blobs = Over(self.blobs)
         made.posted, made.shares, made.addresses = self.posted.copy(), {**self.shares}, {**self.addresses}
-        made.past = {**self.past}
+        made.past, made.addressed = {**self.past}, self.addressed.copy()
         return made
 
     def apply(self, entry: Entry) -> Optional[str]:
@@ -161,6 +169,8 @@ class Ledger:
             raise Void(f"{poster} is expelled")
         if kind in (REGISTER, ADDRESS) and self.posted[poster] >= self.share(poster):
             raise Void(f"{poster} has its share of {self.share(poster)} registrations in this epoch")
+        if kind == ADDRESS and self.addressed[poster] >= ADDRESSES:
+            raise Void(f"{poster} has told {ADDRESSES} addresses in this epoch")
         if kind in ORDERS and poster != OPERATOR:
             raise Void(f"only {OPERATOR} says that")
         if not self.now and kind not in (*ORDERS, ADDRESS):
@@ -192,6 +202,7 @@ class Ledger:
                 self.past[poster] = epoch
             case "address", host, port:
                 self.addresses[poster] = host, port
+                self.addressed[poster] += 1
             case "share", name, count:
                 self.shares[name] = count
             case "calendar", epoch, since, length:
@@ -224,7 +235,7 @@ class Ledger:
             return "expires"
         if own <= blob.votes[kind].get(epoch, frozenset()):
             return "already"
-        self.blobs[identifier] = blob = blob.voted(kind, epoch, own)
+        self.blobs[identifier] = blob = blob.voted(kind, epoch, own, self.quorum)
         count = len(blob.votes[kind][epoch])
         return f"{('certified' if kind == ACK else 'invalid') if count >= self.quorum else 'counted'} {count}"
 
@@ -260,4 +271,5 @@ class Ledger:
         self.past = {name: epoch for name, epoch in self.past.items() if name in self.now}
         live = self.blobs.expire(self.epoch).items()
         self.posted = collections.Counter({name: count for name, count in live if name not in self.expelled})
+        self.addressed.clear()
         return f"epoch {self.epoch}"

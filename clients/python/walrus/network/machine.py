@@ -48,6 +48,20 @@ class Unfounded(ValueError):
     """Why the files of a network are not made, in a sentence."""
 
 
+def is_known_to_tls(name: str) -> bool:
+    """Whether a certificate can have a name, and Python asks servers for it: between dots it has 1 to 63 letters."""
+    try:
+        certificates.name_of(name)
+        return bool(name.encode("idna"))
+    except ValueError:
+        return False
+
+
+def can_be_named(name: str) -> bool:
+    """Whether something can have a name in the ledger and in its certificate."""
+    return bool(NAME.fullmatch(name)) and is_known_to_tls(name)
+
+
 @dataclasses.dataclass(frozen=True)
 class Place:
     """Where something runs under a name, and how many shards a node has."""
@@ -68,9 +82,11 @@ class Place:
             raise Unfounded(
                 f"{text}: a machine cannot be called {RECORDER}, as certificates know recorders by that name"
             )
-        named = NAME.fullmatch(place.name) and place.name.lower() not in KEPT
+        named = can_be_named(place.name) and place.name.lower() not in KEPT
         if not named or not 0 < place.port < 65_536 or not place.shards:
             raise Unfounded(f"{text} names nothing that can be: {place.name}, port {place.port}, {place.shards} shards")
+        if not is_known_to_tls(place.host):
+            raise Unfounded(f"{text}: no certificate can have the name of the machine {place.host}")
         return place
 
     @property

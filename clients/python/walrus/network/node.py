@@ -199,7 +199,7 @@ class Node(View):
 
     async def vouch(self, kind: str, shard: Shard, request: bytes) -> list[bytes]:
         """Posts the node's word once its shard would give it, by the judge, and all others of it hold as much, unless
-        the ledger has it; says what the ledger made of it."""
+        the ledger has it, or has certified the blob in an epoch before; says what the ledger made of it."""
         ledger, identifier, losses = self.ledger, request[1:33], self.store.losses
         said = await shard.answer(request)
         if code_of(said) not in (COUNTED, COUNTED + 1):
@@ -208,6 +208,8 @@ class Node(View):
             return [answer(DECLINED)]  # one word counts for all shards of the node, and one of them cannot give it
         if not await self.store.durable() or self.store.losses != losses:
             return [answer(FULL)]
+        if kind == ACK and (found := ledger.certified_before(identifier, shard.epoch)):
+            return [answer(COUNTED + 1, found)]
         voted = functools.partial(ledger.voted, kind, identifier, self.name)
         if not voted():
             if not self.port.give_way():

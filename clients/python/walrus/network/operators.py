@@ -1,11 +1,15 @@
 """The commands of walrus-net that operators use: their words, and what needs no ledger."""
 import argparse
-from typing import Any, Awaitable, Callable
+import contextlib
+import dataclasses
+import os
+from typing import Any, Awaitable, Callable, Iterator
 
 from . import exposure, gateway, node, operating, recording, restoring, up
 from .certificates import AUTHORITY_DAYS, DAYS
 from .checking import check
 from .client import Access
+from .configuration import faults_of_values
 from .entries import OPERATOR
 from .exposure import Options
 from .founding import GATEWAY_PORT, Founding, found
@@ -51,7 +55,7 @@ def add_words(add: Add) -> None:
     add("remove", "forget nodes, gateways and users, and their keys", "folder", "names+")
 
     more: dict[str, Any]
-    quiet = {"seconds": (60.0, "how long to wait for a node that tells nothing")}
+    quiet = {"seconds": (60.0, "how long to wait for etcd, and for a node that tells nothing")}
     add("restore", "make a ledger whole that was restored from a snapshot", "settings", **quiet)
     add("check", "say what is wrong with files of settings", "settings+")
     more = {"metrics": ("", "PORT of this machine alone, or HOST:PORT, where Prometheus reads its numbers")}
@@ -66,7 +70,10 @@ def add_words(add: Add) -> None:
 
 
 def options_of(words: argparse.Namespace) -> Options:
-    return Options(epochs=words.epochs, stale=words.stale, memory=words.memory, **exposure.chosen(words))
+    made = Options(epochs=words.epochs, stale=words.stale, memory=words.memory, **exposure.chosen(words))
+    if faults := faults_of_values(dataclasses.asdict(made)):
+        raise Failure("; ".join(faults), 2)
+    return made
 
 
 async def run_gateway(words: argparse.Namespace) -> int:
@@ -98,11 +105,22 @@ async def run_up(words: argparse.Namespace) -> int:
     return await up.up(words, options_of(words))
 
 
+@contextlib.contextmanager
+def readable() -> Iterator[None]:
+    """Has what is written be for all to read, as services are users of their own; keys have a mode of their own."""
+    before = os.umask(0o022)
+    try:
+        yield
+    finally:
+        os.umask(before)
+
+
 async def found_all(words: argparse.Namespace) -> int:
     """Makes the files of all machines, and says what is to be done with them."""
     named = [*words.ledger, *words.nodes]
     ledger, nodes = [[it for it in named if ("=" in it) == is_node] for is_node in (False, True)]
-    made = found(words.folder, words.faults, ledger, nodes, words)
+    with readable():
+        made = found(words.folder, words.faults, ledger, nodes, words)
     for host, services in made.plan["hosts"].items():
         print(f"{words.folder}/hosts/{host} is for {host}:/etc/walrus, which runs {' '.join(services)}")
     print(f"{words.folder}/users/operator is for whoever begins epochs; keep {words.folder} itself off all machines")
@@ -111,20 +129,17 @@ async def found_all(words: argparse.Namespace) -> int:
 
 async def add_more(words: argparse.Namespace) -> int:
     made = Founding(words.folder)
-    for text in words.nodes:
-        made.add_node(Place.read(text))
-    for text in words.gateways:
-        made.add_gateway(Place.read(text, port=GATEWAY_PORT))
-    for name in words.users:
-        made.add_user(name)
-    made.save()
+    gateways = [Place.read(it, port=GATEWAY_PORT) for it in words.gateways]
+    with readable():
+        made.add([*map(Place.read, words.nodes)], gateways, words.users)
     for host, services in made.plan["hosts"].items():
         print(f"{words.folder}/hosts/{host} is for {host}:/etc/walrus, which runs {' '.join(services)}")
     return 0
 
 
 async def renew(words: argparse.Namespace) -> int:
-    changed = Founding(words.folder).renew(words.names, words.within, words.days)
+    with readable():
+        changed = Founding(words.folder).renew(words.names, words.within, words.days)
     for path in changed:
         print(f"{path} is new")
     text = "give each machine its folder, and restart what runs there, one machine after the other"
@@ -151,7 +166,7 @@ async def check_all(words: argparse.Namespace) -> int:
             print(f"{path}: {fault}")
         bad += bool(faults)
         if not faults:
-            print(f"{path}: the settings of a {role}, with nothing wrong")
+            print(f"{path}: the settings of a {role}, with nothing {'else ' if soon else ''}wrong")
     return int(bool(bad))
 
 

@@ -6,12 +6,12 @@ import json
 import sqlite3
 import ssl
 import sys
-from typing import Any, Awaitable, Callable, Union
+from typing import Any, Awaitable, Callable, Optional, Union
 
 from aiohttp import web
 
 from .connections import Named, Server
-from .checkpoint import line_of, parted
+from .checkpoint import Mark, line_of, parted
 from .entries import number
 from .etcd import Batch, Etcd, Failed, Gone
 from .follower import NAME as RECORDER, PARTED
@@ -133,13 +133,10 @@ class Service(Server):
         if after > (end := recorder.chain.place):
             return wrong(409, f"the ledger ends at place {end}, but {after} entries were heard before: {PARTED}")
         line: dict[str, Any] = {"ledger": recorder.state.identity, "head": end, "entries": []}
-        mark = await recorder.etcd.mark()
-        if mark and after < mark.place and (mark.dropped or not after):
-            chain, batches = mark.chain, list[Batch]()
+        mark, batches = await self.behind(after, name)
+        chain = mark.chain if mark else batches[0].before if batches else recorder.chain
+        if mark:
             line |= {"place": mark.place, "pieces": mark.pieces, "state": mark.state}
-        else:
-            mark, batches = None, await recorder.behind(after, name)
-            chain = batches[0].before if batches else recorder.chain
         response = web.StreamResponse(headers={"Content-Type": "application/x-ndjson", "Cache-Control": "no-store"})
 
         async def tell(lines: bytes) -> None:
@@ -168,6 +165,20 @@ class Service(Server):
             if request.transport:
                 request.transport.abort()
         return response
+
+    async def behind(self, after: int, name: str) -> tuple[Optional[Mark], list[Batch]]:
+        """What stands for what comes behind a place: a checkpoint, for who is new or asks for what is dropped, or else
+        the entries. While a checkpoint waits for nodes, what was before the one before it is dropped already."""
+        mark = await self.recorder.etcd.mark()
+        stands = mark if mark and after < mark.place else None
+        if stands and (stands.dropped or not after):
+            return stands, []
+        try:
+            return None, await self.recorder.behind(after, name)
+        except Gone:
+            if not stands:
+                raise
+            return stands, []
 
     async def status(self, request: web.Request) -> web.Response:
         recorder = self.recorder

@@ -2,6 +2,7 @@
 import asyncio
 import contextlib
 import dataclasses
+import functools
 import itertools
 import sqlite3
 import sys
@@ -55,7 +56,11 @@ class Once(client.Shard):
             self.sent = [*self.wanted]
             self.asked = asyncio.create_task(self.seat.ask(*map(Asked.alone, self.sent)))
             self.asked.add_done_callback(lambda it: it.cancelled() or it.exception())  # also where nobody waits
-        replies = await asyncio.shield(self.asked)
+        try:
+            replies = await asyncio.shield(self.asked)
+        except ConnectionError:
+            self.late = True  # perhaps by its deadline, with nobody left whom to ask in its place
+            raise
         self.late = False
         if len(replies) < len(self.sent):
             raise ConnectionError("its reply ended with a clash")
@@ -130,8 +135,9 @@ async def lacking(node: "Node", epoch: int, owed: Sequence[bytes]) -> tuple[list
 
 
 async def recover_all(node: "Node", epoch: int, certified: list[Lack], others: list[Lack]) -> int:
-    """Recovers what shards of an epoch lack; how many are lacking still."""
-    work, sizes = certified + others, dict[Lack, int]()
+    """Recovers what shards of an epoch lack; how many are lacking still. Who is late is waited for once all blobs had
+    their turn: nodes that recover the same then have what they got from the others, and give each other the rest."""
+    work, sizes, put_off = certified + others, dict[Lack, int](), list[Lack]()
     if not work[0].shard.free_pages(LAST):  # what comes could not be kept
         tell_full(node)
         return len(work)
@@ -144,17 +150,18 @@ async def recover_all(node: "Node", epoch: int, certified: list[Lack], others: l
             sizes[lack] = sum(node.port.shape.symbols) * node.port.shape.symbol_of(metadata)
             progress.of_bytes += sizes[lack]
 
-    async def recover(lack: Lack) -> None:
+    async def recover(how: Callable[..., Awaitable[bool]], lack: Lack) -> None:
         async with node.store.alone(lack.shard.holding, lack.identifier, "recover"):  # others may lack it too
-            if lack.shard.wants(lack.identifier):
-                await fill(node, *lack)
+            if lack.shard.wants(lack.identifier) and await how(node, *lack):
+                put_off.append(lack)
         if lack.shard.settled(lack.identifier):
             progress.blobs, progress.bytes = progress.blobs + 1, progress.bytes + sizes.get(lack, 0)
 
     await by_lanes(node, work, measure)
     for some in (certified, others):
         some.sort(key=lambda it: sizes.get(it, 0), reverse=True)
-    await by_lanes(node, certified + others, recover)
+    await by_lanes(node, certified + others, functools.partial(recover, fill))
+    await by_lanes(node, put_off, functools.partial(recover, functools.partial(fill, late=True)))
     left = 0
     for place in range(0, len(work), PAGE):
         left += sum(not shard.settled(it) for shard, it in work[place : place + PAGE])  # noqa: E203
@@ -172,14 +179,16 @@ def sides(node: "Node") -> list[Sequence[Seat]]:
     return [node.peers.seats(it, node.ledger.faults) for it in (node.ledger.now, node.ledger.next) if it]
 
 
-def rounds(node: "Node", own: int) -> list[list[Seat]]:
-    """The shards beside the node's own one that are asked for a blob, one side after the other. Those that were late
-    are left out at first if enough others are there: so who says nothing holds up nothing that the others have, such
-    as a proof of bad encoding, for which all of them are heard."""
+def rounds(node: "Node", own: int, late: bool) -> tuple[list[list[Seat]], bool]:
+    """The shards beside the node's own one that are asked for a blob, one side after the other, and whether some are
+    left out. Those that were late are asked last, and only if told so: so who says nothing holds up nothing that the
+    others have, such as a proof of bad encoding, for which all of them are heard."""
     whole = [[it for it in side if (it.name, it.number) != (node.name, own)] for side in sides(node)]
     prompt = [[it for it in side if not it.late] for side in whole]
-    enough = 2 * node.ledger.faults  # beside the own one
-    return [some for some, side in zip(prompt, whole) if enough <= len(some) < len(side)] + whole
+    enough = 2 * node.ledger.faults if late else node.ledger.faults + 1  # for all of it, or for a secondary sliver
+    asked = [some for some in prompt if len(some) >= enough]
+    others = [side for some, side in zip(prompt, whole) if len(some) < len(side)]
+    return (asked + others, False) if late else (asked, bool(others))
 
 
 async def find_metadata(node: "Node", shard: Shard, identifier: bytes) -> bytes:
@@ -206,10 +215,11 @@ async def find_metadata(node: "Node", shard: Shard, identifier: bytes) -> bytes:
     return b""
 
 
-async def fill(node: "Node", shard: Shard, identifier: bytes) -> None:
-    """Recovers what a shard lacks of a blob from the others. A proof of bad encoding in its place is attested."""
+async def fill(node: "Node", shard: Shard, identifier: bytes, late: bool = False) -> bool:
+    """Recovers what a shard lacks of a blob from the others, also from those that are late if told so; whether they may
+    have what is lacking still. A proof of bad encoding in its place is attested."""
     if not (metadata := await find_metadata(node, shard, identifier)):
-        return
+        return False
     shape, own = node.port.shape, shard.number
     crossing = shape.shards - 1 - own if metadata[0] == client.SECOND_METADATA else own
     targets = {PRIMARY: client.Symbol(identifier, 0, own), SECONDARY: client.Symbol(identifier, 1, crossing)}
@@ -220,8 +230,9 @@ async def fill(node: "Node", shard: Shard, identifier: bytes) -> None:
     async with node.repairs.take(size, None):
         if pages(FRONT + count * symbol for count in counts) > shard.free_pages(LAST):  # it would come for nothing
             tell_full(node)
-            return
-        for side in rounds(node, own):
+            return False
+        asked_in, are_left_out = rounds(node, own, late)
+        for side in asked_in:
             wanted = {part: client.write_frame(targets[part]) for part in lacks & {*shard.lacks(identifier)}}
             others = [Once(it, wanted.values()) for it in side]
             for part in sorted(wanted, reverse=True):  # the secondary sliver first, for which few symbols will do
@@ -239,6 +250,7 @@ async def fill(node: "Node", shard: Shard, identifier: bytes) -> None:
                 it.seat.late = it.late if it.asked else it.seat.late
     if shard.vouches(ATTEST, identifier) and not shard.vouches(ACK, identifier):
         await attest(node, shard, identifier)
+    return are_left_out and not shard.settled(identifier)
 
 
 async def attest(node: "Node", shard: Shard, identifier: bytes) -> None:

@@ -11,7 +11,7 @@ from aiohttp import web
 
 from .etcd import Batch, Failed
 from .gateway import ending
-from .recorder import MOST_BATCH, Broken, Recorder
+from .recorder import MOST_BATCH, POLL, Broken, Recorder
 from .recording import Service, etcd_of, wrong
 from .settings import RecorderSettings
 
@@ -31,7 +31,7 @@ class Restoring(Service):
         self.short: dict[str, int] = {}  # nodes that have not kept what comes next, and from where on they have
         self.others = set[str]()  # nodes that have heard another ledger up to that end
         self.strangers = set[str]()  # who has told a tail, and had no shards up to that end
-        self.told, self.progress = asyncio.Event(), time.monotonic()
+        self.told, self.progress = asyncio.Event(), 0.0
 
     def routes(self) -> list[web.RouteDef]:
         entries = "/v1/entries"
@@ -91,9 +91,23 @@ class Restoring(Service):
             found.append(text)
         return found
 
+    async def find_end(self, seconds: float, told: asyncio.Event) -> None:
+        """Reads up to the ledger's end. etcd is waited for that has just been started, unless an end is told."""
+        last, said = time.monotonic() + seconds, ""
+        while True:
+            try:
+                return await self.recorder.catch_up()
+            except Failed as fault:
+                if told.is_set() or time.monotonic() > last:
+                    raise
+                if str(fault) != said:
+                    print(f"{fault}; it is asked again for up to {seconds:g} s", file=sys.stderr, flush=True)
+                said = str(fault)
+            await asyncio.sleep(POLL)
+
     async def restore(self, seconds: float) -> int:
         """Appends what is agreed on until all nodes have told all, or none has told more for so long; how much."""
-        recorder, count = self.recorder, 0
+        recorder, count, self.progress = self.recorder, 0, time.monotonic()
         while time.monotonic() < self.progress + seconds:
             if self.enough([*self.others]):  # else those who say so may lie
                 raise Broken(OTHER.format(recorder.chain.place))
@@ -116,7 +130,7 @@ async def serve(settings: RecorderSettings, seconds: float) -> int:
     recorder = Recorder(etcd_of(settings))
     service, told = Restoring(recorder, settings), ending()
     try:
-        await recorder.catch_up()
+        await service.find_end(seconds, told)
         print(f"the ledger ends at place {recorder.chain.place}: nodes are asked for what they have", flush=True)
         await service.listen()
         working = asyncio.create_task(service.restore(seconds))

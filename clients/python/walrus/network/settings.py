@@ -91,6 +91,7 @@ class GatewaySettings(Options):
         "used",
         "tls_certificate",
         "tls_key",
+        "log",
     )
     name: str  # under which it posts, the name in its certificate
     program: str

@@ -20,7 +20,7 @@ from .notify import alive
 EACH, LATER = 0.5, 1.0  # seconds between two commits, and if the disk is full
 REST = 10  # times as long as it took to enter again what a full disk did not take, until it is tried again
 PAGES = 32_768  # KiB of the database that are kept in memory
-VERSION = 2  # of the tables
+VERSION = 3  # of the tables
 DROPPED = 1_000  # rows of what is over that go with a commit
 STEPS = 1_000_000  # of SQLite's machine, which take some tenths of a second, until the service manager is told again
 TORN = sqlite3.SQLITE_CORRUPT, sqlite3.SQLITE_NOTADB, sqlite3.SQLITE_ERROR  # a database that is none, or another's
@@ -36,7 +36,7 @@ TELL = "INSERT OR REPLACE INTO told VALUES (1, ?)"
 # What a ledger says beside its blobs, and how that is made of what a file says.
 FORMS: dict[str, Callable[[Any], Any]] = dict.fromkeys(("faults", "epoch", "revision", "concentrated"), int)
 FORMS |= {"now": tuple, "next": tuple, "calendar": tuple, "ready": frozenset, "expelled": frozenset}
-FORMS |= {"posted": collections.Counter, "shares": dict}
+FORMS |= {"posted": collections.Counter, "addressed": collections.Counter, "shares": dict}
 FORMS |= {"addresses": lambda told: {name: (host, port) for name, (host, port) in dict(told).items()}, "past": dict}
 
 
@@ -102,7 +102,8 @@ class State(Database):
     def put(self, told: dict[str, Any]) -> None:
         """Has the ledger say this beside its blobs."""
         self.identity, self.chain = told["ledger"], Chain(told["place"], bytes.fromhex(told["digest"]))
-        told = {"posted": {}, "shares": {}, "addresses": {}, "past": {}} | told  # a checkpoint leaves out what is empty
+        empty: dict[str, Any] = {"posted": {}, "addressed": {}, "shares": {}, "addresses": {}, "past": {}}
+        told = empty | told  # a checkpoint leaves out what is empty
         for name, form in FORMS.items():
             setattr(self.ledger, name, form(told[name]))
         blobs, number = self.blobs, told["sizes"]["number"]
@@ -182,9 +183,10 @@ class State(Database):
         self.settle()
         self.entering, fault, base, fresh, chain = True, None, self.base, [*self.fresh], self.chain
         base.execute("ROLLBACK")  # of nothing, or of what the disk does not take
-        reader = sqlite3.connect(self.name, isolation_level=None) if self.name and not self.tail else None
+        reader: Optional[sqlite3.Connection] = None
         try:
-            if reader:
+            if self.name and not self.tail:
+                reader = sqlite3.connect(self.name, isolation_level=None)
                 reader.executescript("PRAGMA query_only = ON; BEGIN; SELECT * FROM told")
                 self.blobs.base = reader
                 self.fall_back()

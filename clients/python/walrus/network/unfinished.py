@@ -133,7 +133,7 @@ class Upload:
                     (self.folder / "marked").touch()
         with open(self.folder / "names", "r+b", buffering=0) as out:
             out.seek(len(self.records))
-            out.write(name + bytes([was_there]))
+            write(out, memoryview(name + bytes([was_there])))  # which raises if a full disk takes a part
         self.path(self.count).unlink()
         self.records += name + bytes([was_there])
         del self.sizes[:1]

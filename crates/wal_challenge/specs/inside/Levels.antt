@@ -4,11 +4,11 @@ use Rattle.std.specs.Prelude.{replicate, Some, slice_get, slice_index_or}
 use Rattle.wal_tree.specs.Tree.{empty_entry, leaves}
 use Rattle.wal_tree.specs.inside.Tree.{level_above}
 
--- the bytes of a level, and behind an odd number of entries the empty one
+-- the bytes of a level, and the empty entry behind an odd number of entries
 abbrev pub evened : List ℕ → List ℕ
 evened bytes = bytes ++ replicate (length bytes % 64) 0
 
--- the bytes have these entries in order, and behind an odd number of them the empty one
+-- the bytes have these entries in order, and the empty one behind an odd number of them
 pub record IsLevel (entries : List (List ℕ)) (bytes : List ℕ) : Type 0 where
   pub many : 1 < length entries
   pub long : length bytes ≡ 64 * ((length entries + 1) / 2)

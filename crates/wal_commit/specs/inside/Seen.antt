@@ -10,8 +10,8 @@ abbrev pub row_leaves : (List ℕ → List ℕ) → ℕ → ℕ → List ℕ →
 row_leaves digest n size extended row seen =
     map (λ column. leaf digest (symbol n size extended row column)) (range_with_len 0 seen)
 
--- of the first `seen` columns of a matrix of n rows and columns of symbols of this size, the tree
--- of each row has the leaves, and the roots of these columns lie one after the other
+-- the tree of each row has the leaves of the first `seen` columns of a matrix of n rows and columns
+-- of symbols of this size, and the roots of these columns lie one after the other
 pub record AreSeen (digest : List ℕ → List ℕ) (n size : ℕ) (extended : List ℕ)
     (seen : ℕ) (trees : StacksState) (roots : List ℕ) : Type 0 where
   pub rows : (row : ℕ) → row < n

@@ -3,16 +3,16 @@ use Rattle.std.specs.Prelude.{◌≡◌, ℕ, ◌*◌, ◌<◌, List, length, ta
 use Rattle.wal_shape.specs.Shape.{BlobShape, shard_count, symbol_size}
 use Rattle.wal_matrix.specs.Matrix.{IsExtended}
 
--- what a blob is: its shape, and its bytes
+-- a blob: its shape, and its bytes
 pub record BlobState : Type 0 where
   pub shape : BlobShape
   pub bytes : List ℕ
 
--- the symbols of its matrix
+-- the number of symbols of its matrix
 abbrev pub symbols_of : BlobState → ℕ
 symbols_of blob = shard_count blob.shape.f * shard_count blob.shape.f
 
--- the bytes of each
+-- the number of bytes of each symbol
 abbrev pub bytes_of_symbol : BlobState → ℕ
 bytes_of_symbol blob = symbol_size blob.shape.f (length blob.bytes)
 

@@ -16,17 +16,17 @@ locator known zero x = 1
 locator known (suc n) x =
     cond (is_known known n) (locator known n x) (times (bit_xor x n) (locator known n x))
 
--- that over the missing points other than x
+-- the product over the missing points other than x
 abbrev pub others : List ℕ → ℕ → ℕ → ℕ
 others known n x = locator (x ∷ known) n x
 
--- marks tell at each point below n whether it is known
+-- the marks tell of each point below n whether it is known
 abbrev pub AreMarks : List ℕ → ℕ → List Bool → Type 0
 AreMarks known n marks =
     (point : ℕ) → point < n → slice_index_or marks point false ≡ is_known known point
 
--- at each known point below `end` the product over the missing points, and at each missing one the
--- inverse of that over the others
+-- at each known point below `end` the product over the missing points, and at each missing point
+-- the inverse of the product over the others
 abbrev pub AreFactors : List ℕ → ℕ → ℕ → List Gf → Type 0
 AreFactors known n end factors =
     (x : ℕ) → x < end

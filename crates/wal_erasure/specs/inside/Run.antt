@@ -8,7 +8,7 @@ use Rattle.wal_code.specs.Weights.{element_at}
 use Rattle.wal_fft.specs.Transform.{lane}
 use Rattle.wal_erasure.specs.inside.Locator.{is_known}
 
--- each word is the factor times that of the source
+-- each word is the factor times the source's word
 abbrev pub IsProduct : ℕ → List ℕ → List ℕ → Type 0
 IsProduct factor source new =
     (word : ℕ) → 2 * word + 1 < length new → word_at new word ≡ times factor (word_at source word)
@@ -24,8 +24,8 @@ pub record ArePut (words start width : ℕ) (known : List ℕ) (count : ℕ)
   pub zeros : (word : ℕ) → word < width → (x : ℕ) → ((k : ℕ) → k < count → slice_index known k ≢ x)
       → lane width strip word x ≡ 0
 
--- the first regions have the strip's words from `start` on, each times the point's factor, and the
--- words before them are kept
+-- from word `start` on, the first regions have the strip's words, each times the point's factor,
+-- and the words before these are kept
 pub record AreTaken (words start width count : ℕ)
     (factors : List Gf) (strip old new : List ℕ) : Type 0 where
   pub products : (word : ℕ) → word < width → (i : ℕ) → i < count
@@ -34,8 +34,8 @@ pub record AreTaken (words start width count : ℕ)
   pub before : (i place : ℕ) → place < start
       → word_at new (words * i + place) ≡ word_at old (words * i + place)
 
--- the words from `start` to below `end` of the regions of missing points are sums of coefficients,
--- and the words before them are kept
+-- the words from `start` to below `end` of the regions of missing points are the combinations of
+-- the sources' words, and the words before them are kept
 pub record AreSolved (words start end wanted : ℕ) (known sources old new : List ℕ) : Type 0 where
   pub sums : (place : ℕ) → start ≤ place → place < end → (x : ℕ) → x < wanted
       → is_known known x ≡ false
@@ -51,8 +51,8 @@ pub record IsCopy (words from to : ℕ) (sources old new : List ℕ) : Type 0 wh
   pub kept : (x : ℕ) → x ≢ to → (word : ℕ) → word < words
       → word_at new (words * x + word) ≡ word_at old (words * x + word)
 
--- the regions of the first `count` known points below `wanted` are the sources', and those of all
--- other points are kept
+-- the regions of those of the first `count` known points that are below `wanted` are the sources',
+-- and those of all points not among these `count` are kept
 pub record AreCopied (words wanted : ℕ) (known : List ℕ)
     (count : ℕ) (sources old new : List ℕ) : Type 0 where
   pub copied : (k : ℕ) → k < count → slice_index known k < wanted → (word : ℕ) → word < words

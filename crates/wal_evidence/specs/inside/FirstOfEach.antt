@@ -2,7 +2,7 @@
 use Rattle.std.specs.Prelude.{ℕ, ◌≤◌, List, length, map, All}
 use Rattle.wal_code.specs.Codeword.{Distinct}
 
--- at most so many, of distinct keys, and of each this is so
+-- at most `most`, with distinct keys, and each with this property
 pub record AreTaken {Y : Type 0} (Is : Y → Type 0)
     (key : Y → ℕ) (most : ℕ) (taken : List Y) : Type 0 where
   pub few : length taken ≤ most

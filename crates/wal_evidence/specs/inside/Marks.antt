@@ -2,7 +2,7 @@
 use Rattle.std.specs.Prelude.{◌≡◌, ◌↔◌, ℕ, ◌<◌, Bool, false, List, length, slice_index_or, IsTrue}
 use Rattle.std.specs.Prelude.{Contains}
 
--- the most shards
+-- the greatest number of shards
 abbrev pub most_shards : ℕ
 most_shards = 1000
 

@@ -1,5 +1,4 @@
--- Slivers and openings that are not a matrix's own, though they are committed under one root with
--- these.
+-- Slivers and openings that are not a matrix's own, though they are committed under the same roots.
 use Rattle.std.specs.Prelude.{◌≡◌, ◌≢◌, ℕ, ◌*◌, ◌<◌, List, All, Some, length, slice_get}
 use Rattle.std.specs.Prelude.{slice_index}
 use Rattle.wal_kernel.specs.Region.{region}
@@ -21,7 +20,7 @@ pub record HaveFalseSliver (f size : ℕ) (extended indices joined : List ℕ) :
   pub apart : region (column_count f * size) joined place
       ≢ primary_of f size extended (slice_index indices place)
 
--- each of them has one root with that of the matrix
+-- each of them has the same root as the matrix's sliver of its index
 pub record SliversMeet (digest : List ℕ → List ℕ) (f size : ℕ)
     (extended indices joined : List ℕ) : Type 0 where
   pub each : (k : ℕ) → k < length indices
@@ -33,7 +32,7 @@ abbrev pub own_symbol : ℕ → ℕ → List ℕ → EncodingProof → Opening �
 own_symbol f size extended proof shown =
     region size (line_of proof.axis f size extended proof.index) shown.cross
 
--- openings of a target, of which the one at this place has not the symbol of the matrix
+-- openings of a target, of which the one at this place does not have the matrix's symbol
 pub record HaveFalseOpening (f size : ℕ) (extended : List ℕ) (proof : EncodingProof) : Type 0 where
   pub long : length extended ≡ shard_count f * shard_count f * size
   pub index : proof.index < shard_count f
@@ -44,7 +43,7 @@ pub record HaveFalseOpening (f size : ℕ) (extended : List ℕ) (proof : Encodi
   pub there : slice_get proof.openings place ≡ Some opening
   pub apart : opening.symbol ≢ own_symbol f size extended proof opening
 
--- the metadata over the matrix commits each of them
+-- the metadata over the matrix commits each of the openings
 pub record OpeningsMeet (digest : List ℕ → List ℕ) (shape : BlobShape)
     (extended : List ℕ) (proof : EncodingProof) : Type 0 where
   pub each : (k : ℕ) (shown : Opening) → slice_get proof.openings k ≡ Some shown

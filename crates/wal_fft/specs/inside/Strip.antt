@@ -11,8 +11,8 @@ pub record IsGathered (words start width known : ℕ) (regions strip : List ℕ)
       → lane width strip word i ≡ word_at regions (words * i + (start + word))
   pub zeros : (word : ℕ) → word < width → (i : ℕ) → known ≤ i → lane width strip word i ≡ 0
 
--- the regions from `known` to below `total` have the strip's words from `start` on, and neither the
--- words before them nor the first regions changed
+-- from word `start` on, the regions from `known` to below `total` have the strip's words, and
+-- neither the words before these nor the first regions changed
 pub record IsScattered (words start width known total : ℕ) (strip old new : List ℕ) : Type 0 where
   pub copied : (word : ℕ) → word < width → (i : ℕ) → known ≤ i → i < total
       → word_at new (words * i + (start + word)) ≡ lane width strip word i

@@ -2,7 +2,7 @@
 use Rattle.std.specs.Prelude.{ℕ, ◌+◌, ◌⊎◌, List, [], ◌∷◌, length}
 use Rattle.wal_journal.specs.Disk.{Agrees, put_at}
 
--- what was there but for the bytes behind the gate, or what is there with them but for the gate
+-- the old bytes but for those behind the gate, or with the text written there but for the gate
 abbrev pub BeforeGate : ℕ → List ℕ → List ℕ → List ℕ → Type 0
 BeforeGate tail text old image =
     Agrees ((tail + 1, length text) ∷ []) old image

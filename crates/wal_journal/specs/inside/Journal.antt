@@ -9,7 +9,7 @@ use Rattle.wal_journal.specs.Record.{Accepts, EitherWay}
 use Rattle.wal_journal.specs.Disk.{Agrees}
 use Rattle.wal_journal.specs.inside.Held.{IsReady}
 
--- the disk failed while a record was written whose text, with the gate behind it, this is
+-- the disk failed while a record was written; the text is the record's, with the gate behind it
 pub record IsTorn {D K : Type 0} (now : D → List ℕ) (faults : D → ℕ) (old : D)
     (at : ℕ) (text : List ℕ) (keep : K) (new : D) (same : K) : Type 0 where
   pub rose : Rose (faults old) (faults new)
@@ -18,7 +18,7 @@ pub record IsTorn {D K : Type 0} (now : D → List ℕ) (faults : D → ℕ) (ol
       → EitherWay changes call (now new)
   pub kept : same ≡ keep
 
--- a change stopped, since the disk failed
+-- a change stopped, because the disk failed
 abbrev pub IsStopped : {D K : Type 0} {disk_ghosts : _} {keep_ghosts : _} → (D → List ℕ) → (D → ℕ)
     → D → ℕ → List ℕ → K
     → ChangeRefusal D K disk_ghosts keep_ghosts → Type 0
@@ -26,8 +26,8 @@ IsStopped now faults old at text keep (Kept journal why) = ⊥
 IsStopped now faults old at text keep (Stopped disk same) =
     IsTorn now faults old at text keep disk same
 
--- the record of a change was written whose text, with the gate behind it, this is: what becomes of
--- the disk, of this keep, and of the tail
+-- the record of a change was written, whose text includes the gate behind it: the disk, this keep
+-- and the tail afterwards
 pub record IsWritten {D K : Type 0} {disk_ghosts : _}
     {keep_ghosts : _} (now : D → List ℕ) (old : List ℕ)
     (at : ℕ) (text : List ℕ) (keep : K) (new : Journal D K disk_ghosts keep_ghosts) : Type 0 where

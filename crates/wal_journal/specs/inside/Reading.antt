@@ -36,7 +36,7 @@ IsHead head (read.DropPart id part) =
     (head.kind ≡ 2) × (head.id ≡ id) × (head.part ≡ part_byte part) × (head.size ≡ 0)
 IsHead head (read.DropId id) = (head.kind ≡ 3) × (head.id ≡ id) × (head.part ≡ 0) × (head.size ≡ 0)
 
--- a record that is carried out
+-- a record is carried out
 pub record IsNext (now : List ℕ) (tail next : ℕ) (old new : Contents) : Type 0 where
   pub change : Call
   pub whole : IsWholeRecord change
@@ -46,7 +46,7 @@ pub record IsNext (now : List ℕ) (tail next : ℕ) (old new : Contents) : Type
   pub within : next < length now
   pub makes : new ≡ after_call old change
 
--- a call of the disk failed, or there was no memory
+-- a call to the disk failed, or there was no memory
 abbrev pub IsReadFault : OpenFault → Type 0
 IsReadFault DiskFault = ⊤
 IsReadFault (BadRecord at) = ⊥

@@ -19,16 +19,16 @@ pub record AreMultiples (factor : ℕ) (products : Multiples) : Type 0 where
   pub high_bytes : IsTable (λ i. times factor i / 256) products.high
   pub low_bytes : IsTable (λ i. times factor i % 256) products.low
 
--- the products of the factor and the numbers with one nibble, for each of the four nibbles of a
--- word
+-- the products of the factor and the words with one nonzero nibble, for each of the four nibbles of
+-- a word
 pub record AreProducts (factor : ℕ) (tables : NibbleTables) : Type 0 where
   pub nibble0 : AreMultiples factor tables.nibble0
   pub nibble1 : AreMultiples (times factor 16) tables.nibble1
   pub nibble2 : AreMultiples (times factor 256) tables.nibble2
   pub nibble3 : AreMultiples (times factor 4096) tables.nibble3
 
--- the bytes of x^4 times the word of two bytes: its top four bits go out, and come back times
--- x^12 + x^3 + x + 1
+-- the bytes of x^4 times the word of two bytes: its top four bits are shifted out, and added back
+-- times x^12 + x^3 + x + 1
 abbrev pub high_of_sixteenfold : ℕ → ℕ → ℕ
 high_of_sixteenfold high low =
     bit_xor (high * 2 ^ 4 % 256) (bit_xor (low / 16) (high / 16 * 2 ^ 4 % 256))
@@ -38,8 +38,8 @@ low_of_sixteenfold high low =
     bit_xor (low * 2 ^ 4 % 256)
     (bit_xor (high / 16 * 2 ^ 3 % 256) (bit_xor (high / 16 * 2 ^ 1 % 256) (high / 16)))
 
--- the sum of one value of each function, at the four nibbles of the word that two bytes are, the
--- highest first
+-- the sum of the four functions' values at the four nibbles of the word of two bytes, the highest
+-- first
 abbrev pub nibble_sum : (ℕ → ℕ) → (ℕ → ℕ) → (ℕ → ℕ) → (ℕ → ℕ) → ℕ → ℕ → ℕ
 nibble_sum f3 f2 f1 f0 high low =
     bit_xor (f3 (high / 16)) (bit_xor (f2 (high % 16)) (bit_xor (f1 (low / 16)) (f0 (low % 16))))

@@ -10,7 +10,7 @@ scaled_byte factor source k =
     let product = times factor (word_at source (k / 2)) in
     if k % 2 == 0 then product / 256 else product % 256
 
--- old is bytes, and f was added to those below end and to no other
+-- old is bytes, and f was added to those below `end` and to no others
 pub record IsSumBelow (f : ℕ → ℕ) (old : List ℕ) (end : ℕ) (now : List ℕ) : Type 0 where
   pub bytes : (k : ℕ) → slice_index old k < 256
   pub long : length now ≡ length old

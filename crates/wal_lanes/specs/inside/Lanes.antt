@@ -20,13 +20,13 @@ lane state k =
 abbrev pub words_of : List (List ℕ) → ℕ → List ℕ
 words_of vectors k = map (λ (values : List ℕ). slice_index values k) vectors
 
--- the last one or two blocks of a padded message, of which `seen` bytes came before these, in whole
--- blocks: what follows the whole blocks
+-- the last one or two blocks of a padded message: what follows the whole blocks of these bytes,
+-- before which `seen` bytes came, in whole blocks
 abbrev pub last_blocks : ℕ → List ℕ → List ℕ
 last_blocks seen message =
     drop (length message / 64 * 64) (message ++ padding (seen + length message))
 
--- how many bytes these blocks have, after a message of n bytes
+-- how many bytes these blocks have for a message of n bytes
 abbrev pub tail_length : ℕ → ℕ
 tail_length n = n % 64 + (119 - n % 64) % 64 + 9
 

@@ -54,15 +54,15 @@ pub record Rows : Type 0 where
   pub live : List BlobId
   pub spare : ℕ
 
--- the identifier that was put in as the one of this number, and its row; beyond all of them zeros,
--- and the row of nothing
+-- the identifier with this number, and its row; past the last one zeros, and the row without
+-- entries
 abbrev pub id_of : List BlobId → ℕ → BlobId
 id_of ids number = slice_index_or ids number (record { 0 = replicate 32 0 })
 
 abbrev pub row_of : List Row → ℕ → Row
 row_of rows number = slice_index_or rows number no_row
 
--- the identifiers of numbers
+-- the identifiers with these numbers
 abbrev pub ids_of : List BlobId → List ℕ → List BlobId
 ids_of ids numbers = map (id_of ids) numbers
 
@@ -71,7 +71,7 @@ pub record IsOrder (ids : List BlobId) (numbers : List ℕ) : Type 0 where
   pub below : All (λ n. n < length ids) numbers
   pub ascends : Ascends (ids_of ids numbers)
 
--- each identifier has a row; one list has the numbers of all identifiers, another one those of some
+-- each identifier has a row; one list has the numbers of all identifiers, another those of some
 pub record IsTable (ids : List BlobId) (rows : List Row) (order live : List ℕ) : Type 0 where
   pub beside : length rows ≡ length ids
   pub whole : length order ≡ length ids
@@ -89,7 +89,7 @@ row_beside (i ∷ ids) (row ∷ rows) id = cond (id_eq i id) row (row_beside ids
 abbrev pub row_in : Rows → BlobId → Row
 row_in table id = row_beside table.ids table.rows id
 
--- those whose `until` is after the reading epoch
+-- the identifiers whose `until` is after the reading epoch
 abbrev pub living : ℕ → Rows → List BlobId
 living epoch table = filter (λ id. nat_lt epoch (row_in table id).until) table.ids
 

@@ -1,5 +1,5 @@
--- What nodes say of one identifier in one way, counted by their shards, and links between their
--- entries.
+-- Claims of one kind that nodes make about one identifier, counted by their shards, and links
+-- between their entries.
 use Rattle.std.specs.Prelude.{◌≡◌, ℕ, ◌+◌, ◌<◌, ◌≤◌, Bool, true, false, cond, nat_eq, nat_le, List}
 use Rattle.std.specs.Prelude.{[], ◌∷◌, ◌++◌, length, All, Option, Some, None, slice_get}
 use Rattle.wal_ledger.specs.declared.entry.Entry.{Entry}
@@ -15,7 +15,7 @@ use Rattle.wal_ledger.specs.inside.Claims.{count_among, IsLeastQuorum}
 use Rattle.wal_ledger.specs.Within.{IsWithin}
 use Rattle.wal_shape.specs.Owners.{has_neighbour}
 
--- whether an entry says it by this very shard
+-- whether an entry makes a claim of this kind by this very shard
 abbrev pub signs : Kind → ℕ → Body → Bool
 signs Holds shard (Ack signer id) = nat_eq signer shard
 signs Denies shard (Attest signer id) = nat_eq signer shard
@@ -50,7 +50,7 @@ HasLeast f owners own kind None = (epoch : ℕ) → count_among f owners own kin
 HasLeast f owners own kind (Some quorum) = IsLeastQuorum f owners own kind quorum.epoch quorum.count
 
 -- a tally is right for own entries and the owners of each epoch: its epoch is the last in which
--- some node signed (0 where none did), its count is how many shards these nodes run, and its link
+-- some node signed (0 if none did), its count is how many shards these nodes run, and its link
 -- leads to each of their entries
 pub record IsTally (f : ℕ) (owners : ℕ → List ℕ) (own : List Entry) (kind : Kind)
     (entries : List Entry) (links : List ℕ) (tally : Tally) : Type 0 where
@@ -72,7 +72,7 @@ Tells tally Fact =
     (kind : Kind) (entries : List Entry) (links : List ℕ)
     → IsTally f owners own kind entries links tally → Fact f owners own kind
 
--- the tally of nothing
+-- the empty tally
 abbrev pub no_tally : Tally
 no_tally = record { epoch = 0; count = 0; last = 0; quorum = None }
 
@@ -87,7 +87,7 @@ quorum_after f epoch count None =
 quorum_after f epoch count (Some quorum) =
     Some (cond (nat_eq quorum.epoch epoch) (record { epoch = epoch; count = count }) quorum)
 
--- the tally after one more node of so many shards signed, in the last epoch so far, by an entry at
+-- the tally after one more node, of `size` shards, signed in the last epoch so far, by an entry at
 -- a place
 abbrev pub tally_after : ℕ → ℕ → ℕ → ℕ → Tally → Tally
 tally_after f epoch place size tally =
@@ -112,8 +112,8 @@ pub record IsFirstClaim (f first : ℕ) (owners : List ℕ) (own : List Entry)
   pub first_time : is_signer_among owners own kind made.epoch shard ≡ false
   pub latest : All (IsWithin first made.epoch) own
 
--- one tally is right where another was, after one more first claim in an epoch by a node of so many
--- shards, entered at a place with its link
+-- the new tally is right if the old one was, after one more first claim in an epoch by a node of
+-- `size` shards, entered at a place with its link
 abbrev pub Grows : ℕ → ℕ → ℕ → ℕ → Tally → Tally → Type 0
 Grows f epoch place size old new =
     (first shard : ℕ) (owners : ℕ → List ℕ) (own : List Entry)

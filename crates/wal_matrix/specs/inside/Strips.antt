@@ -18,7 +18,7 @@ IsRowStrip f size bytes row from long cells =
     → region long cells column
     ≡ take long (drop from (symbol (shard_count f) size extended row column))
 
--- and so are those of the first rows
+-- the runs of the first `rows` rows are the strips of their symbols
 abbrev pub AreRowStrips : ℕ → ℕ → List ℕ → ℕ → ℕ → ℕ → List ℕ → Type 0
 AreRowStrips f size bytes rows from long strip =
     (extended : List ℕ) → IsExtended f bytes extended → (row column : ℕ) → row < rows

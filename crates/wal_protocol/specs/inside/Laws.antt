@@ -1,4 +1,4 @@
--- What the steps of the world need of the crates below.
+-- What the steps of the world need from the crates below.
 use Rattle.std.specs.Prelude.{◌≡◌, ℕ, ◌+◌, ◌<◌, ◌≤◌, Bool, true, is_some, List, Option, Some, None}
 use Rattle.std.specs.Prelude.{Contains}
 use Rattle.wal_shape.specs.declared.metadata.BlobId.{BlobId}
@@ -69,7 +69,7 @@ IsSettledBy recovering.Proof = Unit {0}
 IsSettledBy word = IsDecidedBy word
 
 pub record Laws (rules : Rules) : Type 0 where
-  -- nothing is sound, and so stays what a put, a recovery or forgetting leave
+  -- an empty holding is sound, and a put, a recovery or forgetting keeps a sound one sound
   pub nothing_sound : (id : BlobId) (shard : ℕ) → rules.IsSound id shard no_parts
   pub put_sound : (log : Log) (shard : ℕ) (old new : Contents) (frame : Frame) (answer : PutAnswer)
       → rules.Puts log shard old frame answer new
@@ -81,7 +81,7 @@ pub record Laws (rules : Rules) : Type 0 where
       → AllSound rules shard new
   pub forget_sound : (id : BlobId) (shard : ℕ) (parts : Parts) → rules.IsSound id shard parts
       → rules.IsSound id shard (forgotten parts)
-  -- a put and a recovery leave what was held
+  -- a put and a recovery keep what was held
   pub put_adds : (log : Log) (shard : ℕ) (old new : Contents) (frame : Frame) (answer : PutAnswer)
       → rules.Puts log shard old frame answer new → AreAbove old new
   pub recover_adds : (id : BlobId) (shard : ℕ) (axis : Axis)
@@ -120,8 +120,8 @@ pub record Laws (rules : Rules) : Type 0 where
       → shard < committee_size rules.f → AllSound rules shard old
       → (rules.ContradictsHeld id (parts_at old id) payloads → ⊥)
       → rules.Recovers id shard Secondary old payloads word new → IsSettledBy word
-  -- one of a primary sliver that has the replies of a quorum of shards with secondary slivers is
-  -- decided
+  -- a recovery of a primary sliver that has the replies of a quorum of shards with secondary
+  -- slivers is decided
   pub primary_recovers : (id : BlobId) (shard : ℕ) (old new : Contents)
       (payloads : List (List ℕ)) (word : RecoverWord) (heard : ℕ → Bool)
       → quorum_size rules.f ≤ count_below (committee_size rules.f) heard

@@ -1,4 +1,4 @@
--- What comes of a node's word on a blob, an acknowledgement or an attestation.
+-- The result of a node's claim about a blob, an acknowledgement or an attestation.
 use Rattle.std.specs.Prelude.{◌≡◌, ℕ, ◌<◌, ◌≤◌, true, false}
 use Rattle.wal_shape.specs.declared.metadata.BlobId.{BlobId}
 use Rattle.wal_ledger.specs.declared.entry.Kind.{Kind}

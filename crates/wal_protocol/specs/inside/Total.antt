@@ -46,7 +46,7 @@ IsFound recovering.Ignored = ⊥
 IsFound recovering.Unregistered = ⊥
 IsFound _ = Unit {0}
 
--- what a read comes to, with evidence exactly for a verdict
+-- the result of a read, with evidence exactly if it is a verdict
 abbrev pub IsReadAs : Rules → BlobId → List (List ℕ) → ReadWord → Option Evidence → Type 0
 IsReadAs rules id payloads word evidence =
     rules.Reads id payloads word evidence × (is_some evidence ≡ is_some (told_by word))
@@ -68,7 +68,7 @@ pub record Total (rules : Rules) : Type 0 where
   pub put_collides : (log : Log) (shard : ℕ)
       (old new : Contents) (frame : Frame) (answer : PutAnswer)
       → rules.Puts log shard old frame answer new → is_clash answer ≡ true → HasCollision rules
-  -- what is held and sound is replied, in bytes
+  -- a sound holding has a reply, in bytes
   pub read_replied : (id : BlobId) (shard : ℕ) (parts : Parts) → rules.IsSound id shard parts
       → All AreBytes (rules.read_reply id shard parts)
   pub symbol_replied : (id : BlobId) (helper : ℕ) (parts : Parts) (axis : Axis) (shard : ℕ)
@@ -76,14 +76,14 @@ pub record Total (rules : Rules) : Type 0 where
       → Possible
       ((payloads : List (List ℕ)) × rules.IsSymbolReply id helper parts axis shard payloads
       × All AreBytes payloads)
-  -- payloads in which no two metadata differ come to something, and two that differ collide
+  -- a read of payloads in which no two metadata differ has a result, and two that differ collide
   pub reads : (id : BlobId) (payloads : List (List ℕ)) → All AreBytes payloads
       → (rules.HasTwoMetadata id payloads → ⊥)
       → Possible
       ((word : ReadWord) × (evidence : Option Evidence) × IsReadAs rules id payloads word evidence)
   pub two_collide : (id : BlobId) (payloads : List (List ℕ)) → All AreBytes payloads
       → rules.HasTwoMetadata id payloads → Possible (HasCollision rules)
-  -- so it is of recoveries
+  -- the same for recoveries
   pub recovers : (id : BlobId) (shard : ℕ) (axis : Axis) (old : Contents) (payloads : List (List ℕ))
       → shard < committee_size rules.f → All AreBytes payloads → AllSound rules shard old
       → (rules.ContradictsHeld id (parts_at old id) payloads → ⊥)
@@ -93,7 +93,7 @@ pub record Total (rules : Rules) : Type 0 where
       → All AreBytes payloads → rules.IsSound id shard parts
       → rules.ContradictsHeld id parts payloads
       → Possible (HasCollision rules)
-  -- and first answers that rest on something, with two verdicts, collide
+  -- and first answers that rest on something but have different verdicts collide
   pub answers_collide : (id : BlobId) (one other : First) → rules.IsBacked id one
       → rules.IsBacked id other
       → verdict_of one ≢ verdict_of other → Possible (HasCollision rules)

@@ -31,14 +31,14 @@ abbrev pub IsUnfinished : List ℕ → Type 0
 IsUnfinished bytes = (envelope_at bytes ≡ None) × IsPart bytes
 
 -- there is room for the longest metadata, no more bytes were taken than may be, no whole envelope
--- is kept, and none that is read past
+-- is kept, and nothing of one that is read past
 pub record IsSound (intake : IntakeState) : Type 0 where
   pub room : 64019 ≤ intake.room
   pub limit : intake.taken ≤ 134217728
   pub unfinished : IsUnfinished intake.kept
   pub apart : 0 < intake.missing → intake.kept ≡ []
 
--- with any so many bytes more they are an envelope of the size that its head says
+-- with any `missing` more bytes they are an envelope of the size that its head gives
 abbrev pub IsLacking : List ℕ → ℕ → Type 0
 IsLacking bytes missing =
     (more : List ℕ) → length more ≡ missing
@@ -63,7 +63,7 @@ Hears digest bytes old new true =
     → HasHeard digest id new (payloads ++ payload ∷ []))
 Hears digest bytes old new false = (new ≡ old) × IsUnfinished bytes
 
--- of a metadata that is kept there is room for all
+-- once the state is settled, an envelope that is kept is no longer than the longest one of metadata
 abbrev pub HasRoom : IntakeState → Type 0
 HasRoom intake = IsSettledState intake.heard → 7 ≤ length intake.kept → size_in intake.kept ≤ 64012
 

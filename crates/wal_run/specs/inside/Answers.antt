@@ -21,7 +21,7 @@ answer_text (Image image) = take image.size (flat_bytes image.disk)
 answer_text (Sliver envelope) = envelope.bytes
 answer_text (Proof envelope) = envelope.bytes
 
--- what is written of a refusal: nothing where memory ran out
+-- what is written of a refusal: nothing if memory ran out
 abbrev pub Refused : Refusal → ℕ → List ℕ → Type 0
 Refused refusal status text =
     (refusal ≢ Memory) × (status ≡ refusal_status refusal) × (text ≡ refusal_text refusal)
@@ -44,8 +44,8 @@ Says (Err refusal) Is = Refuses refusal Is
 abbrev pub IsBroken : List ℕ → ℕ → List ℕ → Type 0
 IsBroken input status text = (status ≡ 8) × BreaksAt input text
 
--- its payloads carry no metadata of the identifier, or two that differ: what every command tells
--- that asks for one
+-- the input is no stream, or its payloads carry no metadata of the identifier, or two that differ:
+-- what every command that asks for one tells
 abbrev pub LacksMetadata : (List ℕ → List ℕ) → BlobId → List ℕ → ℕ → List ℕ → Type 0
 LacksMetadata digest id input status text =
     IsResult digest (bare 0 (envelopes_of id)) input status text

@@ -9,7 +9,7 @@ use Rattle.wal_run.specs.Command.{Recorded, Content, Command}
 abbrev pub recorded : List (List ℕ) → BlobMetadata → Recorded
 recorded payloads metadata = record { payloads = payloads; metadata = metadata }
 
--- the same of what an input spells
+-- the status and the text for what an input spells
 pub data Told (digest : List ℕ → List ℕ) (command : Command) (content : Content command.grammar) : ℕ
     → List ℕ
     → Type 0 where

@@ -8,7 +8,7 @@ use Rattle.wal_words.specs.declared.task.WholeTask.TheVariants.{Bundle, Member, 
 use Rattle.wal_words.specs.declared.task.WholeTask.TheVariants.{Gateway}
 use Rattle.wal_run.specs.inside.Serving.{MayServe}
 
--- the numbers of a task are in their range, where the code rests on it
+-- the numbers of a task are in their range, as far as the code rests on it
 abbrev pub IsWholeInRange : WholeTask → Type 0
 IsWholeInRange (Identify f format) = (1 ≤ f) × (f ≤ 333)
 IsWholeInRange (Encode f format) = (1 ≤ f) × (f ≤ 333)

@@ -7,8 +7,8 @@ use Rattle.wal_port.specs.declared.transfers.TakeError.TheVariants.{ReadFault, T
 use Rattle.wal_reader.specs.Intake.{IsWrongAt}
 use Rattle.wal_reader.specs.Standing.{ReaderState, StandsFor}
 
--- what comes of asking for a piece behind so many bytes: the first bytes of the buffer, none only
--- at the end; or a read failed, which loses nothing; or the one byte that is too many was there
+-- the result of asking for a piece behind so many bytes: the first bytes of the buffer, none only
+-- at the end; or a read failed, which loses nothing; or there was one byte too many
 abbrev pub GivesPiece : Option (List ℕ) → Option (List ℕ) → Type 0 → ℕ → List ℕ → Result ℕ TakeError
     → Type 0
 GivesPiece left after Rose taken buffer (Ok count) =
@@ -24,17 +24,17 @@ abbrev pub Stands : (List ℕ → List ℕ) → List ℕ → ReaderState → Opt
 Stands digest id reader None stream = StandsFor digest id reader stream
 Stands digest id reader (Some place) stream = IsWrongAt place stream
 
--- what comes of a piece more that makes this stream
+-- the result of one more piece, which makes this stream
 abbrev pub FeedsOn : (List ℕ → List ℕ) → List ℕ → ReaderState → List ℕ → Result (Option ℕ) TakeError
     → Type 0
 FeedsOn digest id reader stream (Ok wrong) = Stands digest id reader wrong stream
 FeedsOn digest id reader stream (Err fault) = fault ≡ Memory
 
--- so many bytes were taken, at most
+-- at most so many bytes were taken
 abbrev pub TakesFew : Option (List ℕ) → Option (List ℕ) → Type 0
 TakesFew left after = (taken : List ℕ) × Consumes left after taken × (length taken ≤ 134217728)
 
--- what comes of taking a stream: it was taken whole, and the reader stands for it; or a read
+-- the result of taking a stream: it was taken whole, and the reader stands for it; or a read
 -- failed; or it has one byte too many; or memory ran out
 abbrev pub TakesStream : (List ℕ → List ℕ) → List ℕ → Option (List ℕ) → Option (List ℕ) → Type 0
     → ReaderState → Result (Option ℕ) TakeError → Type 0

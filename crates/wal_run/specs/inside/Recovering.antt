@@ -14,14 +14,14 @@ recovered_status (Sliver bytes) = 0
 recovered_status (Inconsistent proof) = 3
 recovered_status (Short count) = 4
 
--- from the sender of the index the envelope of the sliver, or of the proof that it was encoded
--- badly
+-- the envelope of the sliver, or of the proof that it was encoded badly, with the index as its
+-- sender
 abbrev pub recovered_text : List ℕ → ℕ → Axis → ℕ → Recovered → List ℕ
 recovered_text id f axis index (Sliver bytes) = envelope index (sliver_frame id axis index bytes)
 recovered_text id f axis index (Inconsistent proof) = envelope index (frame_text (Proof id proof))
 recovered_text id f axis index (Short count) = short_text count (sliver_symbols axis f)
 
--- there is an envelope for what openings come to: neither a sliver nor a proof is long
+-- the result of openings fits in an envelope: neither a sliver nor a proof is too long
 abbrev pub Fits : Recovered → Type 0
 Fits (Sliver bytes) = length bytes ≤ most_bytes
 Fits (Inconsistent proof) = IsProof proof → length (proof_text proof) ≤ 33554432

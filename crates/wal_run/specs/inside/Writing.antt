@@ -7,7 +7,7 @@ use Rattle.wal_run.specs.declared.finish.PutError.{PutError}
 use Rattle.wal_run.specs.declared.finish.PutError.TheVariants.{Memory, WriteFault}
 use Rattle.wal_run.specs.inside.Command.{Told}
 
--- how the writing of a text ends, where nothing but the text, the status and the sink matters
+-- how the writing of a text ends, if only the text, the status and the sink matter
 pub data Finishes (IsText : List ℕ → Type 0)
     (old new : Option (List ℕ)) (SinkRose : Type 0) (success : ℕ) : ℕ
     → Type 0 where
@@ -18,7 +18,7 @@ pub data Finishes (IsText : List ℕ → Type 0)
   cut : (text : List ℕ) → IsText text → SinkRose → AppendsPart old new text
       → Finishes IsText old new SinkRose success 7
 
--- how a task ends whose input was taken: memory ran out and nothing was written, or the writing of
+-- how a task whose input was taken ends: memory ran out and nothing was written, or the writing of
 -- its result ended
 pub data Performs (HasResult : ℕ → List ℕ → Type 0)
     (old new : Option (List ℕ)) (SinkRose : Type 0) : ℕ
@@ -27,7 +27,7 @@ pub data Performs (HasResult : ℕ → List ℕ → Type 0)
   finished : (success status : ℕ) → Finishes (HasResult success) old new SinkRose success status
       → Performs HasResult old new SinkRose status
 
--- the same of a task that writes while it works: it may also break off
+-- the same for a task that writes while it works: it may also break off
 pub data Does (HasResult : ℕ → List ℕ → Type 0) (IsLeft IsOwed : List ℕ → Type 0)
     (old new : Option (List ℕ)) (SinkRose : Type 0) : ℕ
     → Type 0 where
@@ -46,8 +46,8 @@ DoesTold digest command content old new SinkRose status =
     Does (Told digest command content) (command.Leaves content)
     (command.Owes content) old new SinkRose status
 
--- what comes of writing the next piece of a text: all of it, or a front where the sink failed, or
--- nothing where there was no memory for it
+-- the result of writing the next piece of a text: all of it, or a prefix if the sink failed, or
+-- nothing if there was no memory for it
 abbrev pub PutsPiece : (List ℕ → Type 0) → Option (List ℕ) → Option (List ℕ) → Type 0
     → Result (Unit {0}) PutError → Type 0
 PutsPiece IsPiece old new SinkRose (Ok done) =
@@ -56,7 +56,7 @@ PutsPiece IsPiece old new SinkRose (Err Memory) = Keeps old new
 PutsPiece IsPiece old new SinkRose (Err WriteFault) =
     (piece : List ℕ) × IsPiece piece × SinkRose × AppendsPart old new piece
 
--- the status where a piece was not written whole
+-- the status if a piece was not written whole
 abbrev pub put_status : PutError → ℕ
 put_status Memory = 5
 put_status WriteFault = 7

@@ -15,7 +15,7 @@ use Rattle.wal_schedule.specs.Reading.{◌>>=◌, given, list_at, with_keys}
 use Rattle.wal_schedule.specs.Grammar.{attest_of, forget_of, later_named, one_if_has, owners_at}
 use Rattle.wal_schedule.specs.Grammar.{read_of, recover_of}
 
--- the event of this name, where it is none of the first four
+-- the event of this name, if it is none of the first four
 abbrev pub held_named : ℕ → Data → List ℕ → Option Event
 held_named n value name =
     if bytes_eq name (codes "attest") then attest_of value
@@ -24,7 +24,7 @@ held_named n value name =
     else (if bytes_eq name (codes "forget") then forget_of value
     else later_named n value name)))
 
--- the head of these numbers, with the lists of an object
+-- the head with these numbers and the lists of an object
 abbrev pub head_with : ℕ → ℕ → Format → Data → Option Head
 head_with f epoch format value = do
   owners ← owners_at (shard_count f) value
@@ -33,7 +33,7 @@ head_with f epoch format value = do
       (record { f = f; epoch = epoch; format = format; owners = owners; faulty = faulty })
   with_keys (4 + one_if_has (codes "format") value + one_if_has (codes "owners") value) value head
 
--- events, and those of the rest
+-- events put before those of the rest
 abbrev pub after : List Event → Result (List Event) ℕ → Result (List Event) ℕ
 after xs (Ok ys) = Ok (xs ++ ys)
 after xs (Err number) = Err number
@@ -54,7 +54,7 @@ pub record IsHead (head : Head) : Type 0 where
   pub epoch_most : head.epoch ≤ 65535
   pub committee : IsTrue (is_committee (shard_count head.f) head.owners head.faulty)
 
--- what is read of a value, unless memory runs out
+-- what is read from a value, unless memory runs out
 abbrev pub Tells : Result Schedule ScheduleError → Result Schedule ScheduleError → Type 0
 Tells (Ok schedule) told = told ≡ Ok schedule
 Tells (Err NotJson) told = ⊥

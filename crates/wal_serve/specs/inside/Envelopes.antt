@@ -1,4 +1,4 @@
--- Taking one envelope of a source.
+-- Taking one envelope from a source.
 use Rattle.std.specs.Prelude.{◌≡◌, ℕ, ◌<◌, ◌≤◌, ◌^◌, List, [], ◌∷◌, ◌++◌, length, Option, Some}
 use Rattle.std.specs.Prelude.{None, Result, Ok, Err}
 use Rattle.std.specs.Int.{w16, w32}
@@ -14,9 +14,9 @@ use Rattle.wal_serve.specs.declared.envelopes.Lack.TheVariants.{Nothing, Wrong, 
 use Rattle.wal_serve.specs.declared.envelopes.Lack.TheVariants.{Failed}
 use Rattle.wal_serve.specs.inside.Payload.{PayloadRoom}
 
--- why no whole envelope was taken, of which at most `most` bytes may be taken, and the bytes that
--- the source lost: there were none; the first one begins no envelope; the source ended in an
--- envelope; it had one byte more than may be taken; or a read failed
+-- why no whole envelope was taken, if at most `most` bytes may be taken, and the bytes that the
+-- source lost: there were none; the first one begins no envelope; the source ended in an envelope;
+-- it had one byte more than may be taken; or a read failed
 pub data Lacks (left after : Option (List ℕ)) (Rose : Type 0) (most : ℕ) : Lack → List ℕ
     → Type 0 where
   nothing : Consumes left after [] → IsAtEnd after → Lacks left after Rose most Nothing []
@@ -29,7 +29,7 @@ pub data Lacks (left after : Option (List ℕ)) (Rose : Type 0) (most : ℕ) : L
   failed : (got : List ℕ) → Consumes left after got → IsPart got → length got ≤ most → Rose
       → Lacks left after Rose most Failed got
 
--- what ends an envelope where its bytes were not taken whole behind the first one
+-- why there is no whole envelope, if not all its bytes behind the first one were taken
 abbrev pub lack_of : Took → Option Lack
 lack_of took.Whole = None
 lack_of took.Ended = Some Cut

@@ -9,7 +9,7 @@ pub record Says (own : ℕ) (old : Buffer) (frames : List (List ℕ)) (new : Buf
   pub written : new ≡ appended old (sent own frames)
   pub fits : length (sent own frames) ≤ old.spare
 
--- these frames were, and then their number
+-- these frames were written so, and then their number
 abbrev pub SaysReplied : ℕ → Buffer → List (List ℕ) → Buffer → Type 0
 SaysReplied own old payloads new =
     Says own old (payloads ++ reply_text (done (length payloads)) ∷ []) new

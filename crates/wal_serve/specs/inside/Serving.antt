@@ -15,7 +15,7 @@ use Rattle.wal_port.specs.Appending.{AppendsPart}
 use Rattle.wal_serve.specs.Serving.{Table, Replies, Served}
 use Rattle.wal_serve.specs.inside.Payload.{PayloadRoom}
 
--- where two texts end serving, their frame is the only one of that answer
+-- if two texts end serving, their frame is the only one of that answer
 abbrev pub StopsWith : Option MetaClash → List (List ℕ) → Type 0
 StopsWith None frames = ⊤
 StopsWith (Some clash) frames = frames ≡ clash_text clash ∷ []
@@ -36,7 +36,7 @@ pub record IsServing {C : Type 0} (Answer : Table C) (room own : ℕ) (fresh sta
   pub consumed : Consumes left after front
   pub appended : Appends old new (sent own frames)
 
--- how serving ends where no further envelope was taken whole, behind so many bytes
+-- how serving ends if no further envelope was taken whole, behind so many bytes
 abbrev pub end_without : Lack → ℕ → ServeEnd
 end_without lack.Nothing place = Done
 end_without lack.Wrong place = Malformed place
@@ -44,14 +44,14 @@ end_without lack.Cut place = Malformed place
 end_without lack.TooLong place = TooLong
 end_without lack.Failed place = ReadFault
 
--- what is answered to a payload of this size, which is in the buffer if the buffer has room for it
+-- the answer to a payload of this size, which is in the buffer if the buffer has room for it
 abbrev pub RepliesInto : {C : Type 0} → Table C → PayloadRoom → ℕ → C → List (List ℕ)
     → Option MetaClash → C → Type 0
 RepliesInto Answer buffer size old frames clash new =
     (payload : List ℕ) → length payload ≡ size → (size ≤ buffer.room → buffer.bytes ≡ payload)
     → Replies Answer buffer.room old payload frames clash new
 
--- the same, and where two texts end serving, their frame is the only one
+-- the same; and if two texts end serving, their frame is the only one
 abbrev pub AnswersInto : {C : Type 0} → Table C → PayloadRoom → ℕ → C → List (List ℕ)
     → Option MetaClash → C → Type 0
 AnswersInto Answer buffer size old frames clash new =

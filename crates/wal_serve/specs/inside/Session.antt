@@ -10,8 +10,8 @@ use Rattle.wal_serve.specs.State.{ServedState, SamePlace, state_of}
 use Rattle.wal_serve.specs.Reply.{outcome_text, clash_in}
 use Rattle.wal_serve.specs.inside.Saying.{Says}
 
--- what is answered to one payload: the state before, the frames, the two texts where they end
--- serving, and the state after
+-- the answer to one payload: the state before, the frames, the two texts if they end serving, and
+-- the state after
 abbrev pub Row : Type 1
 Row = ServedState → List (List ℕ) → Option MetaClash → ServedState → Type 0
 
@@ -20,12 +20,12 @@ module _ {H K : Type 0} {h : hash.Ghosts H} {k : keep.Ghosts K} where
   abbrev pub served : Session H K h k → ServedState
   served session = state_of session.shard.now session.state.now
 
-  -- one frame is answered so, with this outcome
+  -- the answer is one frame, that of this outcome
   abbrev pub Gives : Row → Session H K h k → Result Reply MetaClash → Session H K h k → Type 0
   Gives Answer old outcome new =
       Answer (served old) (outcome_text outcome ∷ []) (clash_in outcome) (served new)
 
-  -- frames are answered so, and written in envelopes from the shard
+  -- the frames of the answer are written in envelopes from the shard
   abbrev pub Answers : Row → Session H K h k → Buffer → Option MetaClash → Session H K h k → Buffer
       → Type 0
   Answers Answer old out clash new then = (frames : List (List ℕ))

@@ -1,13 +1,12 @@
--- Taking bytes of a source, of which only so many may be taken.
+-- Taking bytes from a source, of which only so many may be taken.
 use Rattle.std.specs.Prelude.{◌≡◌, ℕ, ◌<◌, ◌≤◌, List, [], ◌∷◌, ◌++◌, length, Option}
 use Rattle.std.specs.Io.KnownBytes.{Consumes, IsAtEnd}
 use Rattle.wal_serve.specs.declared.taking.Took.{Took}
 use Rattle.wal_serve.specs.declared.taking.Took.TheVariants.{Whole, Ended, TooLong, Failed}
 
--- how taking `size` bytes ended, of which at most `most` may be taken, and the bytes that the
--- source lost:
--- they were taken whole; the source ended before; it had one byte more than may be taken; or a read
--- failed
+-- how taking `size` bytes ended, if at most `most` may be taken, and the bytes that the source
+-- lost: they were taken whole; the source ended before; it had one byte more than may be taken; or
+-- a read failed
 pub data Takes (left after : Option (List ℕ)) (Rose : Type 0) (size most : ℕ) : Took → List ℕ
     → Type 0 where
   whole : (got : List ℕ) → Consumes left after got → length got ≡ size → size ≤ most

@@ -10,12 +10,12 @@ abbrev pub root_place_of : Axis → ℕ → ℕ
 root_place_of Primary pair = 10 + 64 * pair
 root_place_of Secondary pair = 42 + 64 * pair
 
--- the numbers are fit, and all pairs of roots are there and nothing else
+-- the numbers are fit, all pairs of roots are there, and nothing else is
 abbrev pub AreNumbersAndRoots : List ℕ → Type 0
 AreNumbersAndRoots bytes =
     IsShape (spelled_f bytes) (spelled_length bytes)
     × (length bytes ≡ 10 + 64 * shard_count (spelled_f bytes))
 
--- the bytes spell a metadata
+-- the bytes spell metadata
 abbrev pub SpellMetadata : List ℕ → Type 0
 SpellMetadata bytes = AreNumbersAndRoots (behind_format bytes)

@@ -29,7 +29,8 @@ unfoldable pub bodies_end : ℕ → List ℕ → Option (List ℕ)
 bodies_end zero bytes = Some bytes
 bodies_end (suc n) bytes = behind (body_at bytes) (bodies_end n)
 
--- bytes with this head spell a proof: its numbers are fit, all bodies are there and nothing else
+-- bytes with this head spell a proof: its numbers are fit, all bodies are there, nothing else is,
+-- and the bytes are the proof's spelling
 abbrev pub SpellProof : Head → List ℕ → Type 0
 SpellProof head bytes =
     (head.index ≤ 999) × (head.count ≤ 1000) × (bodies_end head.count (drop 5 bytes) ≡ Some [])

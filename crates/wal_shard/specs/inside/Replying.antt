@@ -2,7 +2,7 @@
 use Rattle.std.specs.Prelude.{ℕ, ◌+◌, ◌*◌}
 use Rattle.wal_shape.specs.Shape.{shard_count, column_count, symbol_size, most_bytes}
 
--- the room for the longest metadata, the longest sliver and the longest proof in an envelope
+-- the room for the longest metadata and for the longest proof, each in an envelope
 abbrev pub metadata_room : ℕ → ℕ
 metadata_room f = 19 + 64 * shard_count f
 

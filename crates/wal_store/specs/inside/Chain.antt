@@ -7,7 +7,7 @@ pub record Linked : Type 0 where
   pub states : List PageState
   pub next : List ℕ
 
--- so many pages, from a first one on
+-- `count` pages, from a first one on
 abbrev pub links : List ℕ → ℕ → ℕ → List ℕ
 links next zero first = []
 links next (suc count) first = first ∷ links next count (slice_index next first)

@@ -40,7 +40,7 @@ cost_at entries id = unwrap_or (option_map cost_of (found_in entries id)) 0
 abbrev pub needed_in : Entries → BlobId → ℕ → ℕ
 needed_in entries id size = (if is_some (found_in entries id) then 0 else 1) + pages_for size
 
--- these parts of an identifier, which is gone where they are none
+-- the entries with these parts of an identifier, which is gone if they are none
 abbrev pub changed_in : Entries → BlobId → Parts → Entries
 changed_in entries id parts =
     if is_empty parts then remove_entry (is_at (id_cmp id)) entries
@@ -52,7 +52,7 @@ freed_in entries id part =
     if is_empty (with_part (parts_in entries id) part None) then cost_at entries id
     else part_cost (part_of (parts_in entries id) part)
 
--- where there is a limit, the use of it is known, and it holds
+-- if there is a limit, its use is known and within it
 abbrev pub InBudget : Option Budget → ℕ → Type 0
 InBudget budget cost = ForSome budget (λ known. (known.used ≡ cost) × (known.used ≤ known.limit))
 

@@ -37,7 +37,7 @@ abbrev pub slot_links : List ℕ → Option Slot → List ℕ
 slot_links next None = []
 slot_links next (Some slot) = links next (pages_for slot.size) slot.first
 
--- how many they are
+-- how many pages a part has
 abbrev pub slot_cost : Option Slot → ℕ
 slot_cost None = 0
 slot_cost (Some slot) = pages_for slot.size

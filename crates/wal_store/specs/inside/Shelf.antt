@@ -1,7 +1,7 @@
 use Rattle.std.specs.Prelude.{ℕ, suc, List, [], ◌∷◌, Option, Some, None}
 use Rattle.wal_pool.specs.Pages.{PageState, Free, Taken}
 
--- the right to a page is kept exactly where the page is taken, and has its number
+-- the right to a page is kept exactly if the page is taken, and has its number
 abbrev pub token_of : ℕ → PageState → Option ℕ
 token_of number Free = None
 token_of number (Taken bytes) = Some number

@@ -12,7 +12,7 @@ use Rattle.wal_protocol.specs.Run.{is_collision}
 use Rattle.wal_world.specs.declared.run.ReplayError.{ReplayError}
 use Rattle.wal_world.specs.declared.run.ReplayError.TheVariants as failing
 
--- what one more event comes to, and whether its line is a collision
+-- the result of one more event, and whether its line is a collision
 abbrev pub Takes : Rules → World → Event → World → Option (List ℕ) → Option (List ℕ) → Type 0
     → Result Bool ReplayError → Type 0
 Takes rules old event new before after SinkRose (Ok stops) =

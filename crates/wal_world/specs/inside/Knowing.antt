@@ -1,4 +1,4 @@
--- What a shard that recovers a sliver knows of the blob's metadata, and what its recovery comes to.
+-- What a shard that recovers a sliver knows of the blob's metadata, and the result of its recovery.
 use Rattle.std.specs.Prelude.{◌≡◌, ℕ, List, Option, Some, None}
 use Rattle.wal_shape.specs.declared.metadata.BlobId.{BlobId}
 use Rattle.wal_shape.specs.declared.axis.Axis.{Axis}
@@ -21,8 +21,8 @@ abbrev pub IsHeldMetadata : (List ℕ → List ℕ) → ℕ → List ℕ → Par
 IsHeldMetadata digest f id parts None = parts.metadata ≡ None
 IsHeldMetadata digest f id parts (Some metadata) = IsOwnMetadata digest f id parts metadata
 
--- this metadata is the only one that is known, and the identifier commits it; where a shard holds
--- one, it is this
+-- this metadata is the only one that is known, and the identifier commits it; if a shard holds one,
+-- it is this
 pub record IsOnly (digest : List ℕ → List ℕ) (id : BlobId) (parts : Parts)
     (payloads : List (List ℕ)) (metadata : BlobMetadata) : Type 0 where
   pub known : Knows digest id parts payloads metadata
@@ -38,7 +38,7 @@ AreKnown digest id parts payloads (One metadata) = IsOnly digest id parts payloa
 AreKnown digest id parts payloads (Two collision) =
     KnowsTwo digest id parts payloads × IsCollision digest collision.left collision.right
 
--- a recovery from these payloads comes to this word, and the shard keeps what it found
+-- a recovery from these payloads has this word as its result, and the shard keeps what it found
 abbrev pub RecoversInWorld : (List ℕ → List ℕ) → World → Side → ℕ → Axis → BlobId → List (List ℕ)
     → RecoverWord → World → Type 0
 RecoversInWorld digest old side shard axis id payloads word new =

@@ -1,4 +1,4 @@
--- Frames on their way to the shards of a committee, and what they come to.
+-- Frames on their way to the shards of a committee, and the results of their puts.
 use Rattle.std.specs.Prelude.{◌≡◌, ℕ, ◌<◌, ◌≤◌, List, [], map, Option, Some, None, is_some, IfSome}
 use Rattle.std.specs.Prelude.{Result, Ok, Err, ⊤}
 use Rattle.std.specs.List.{AllByRecursion}
@@ -19,7 +19,7 @@ use Rattle.wal_protocol.specs.State.{World, Committee, side_of, with_side}
 use Rattle.wal_theorem.specs.Instance.{rules_of}
 use Rattle.wal_protocol.specs.Step.{PutsEach}
 
--- the frame that was read, and that which bytes are read as
+-- the frame that was read, and the one that bytes are read as
 abbrev pub frame_read : Result Frame FrameError → Frame
 frame_read (Ok frame) = frame
 frame_read (Err fault) = Read []
@@ -41,7 +41,7 @@ addressed shard frames = map (λ frame. (shard, frame)) frames
 abbrev pub letters_in : ℕ → List (List ℕ) → List (ℕ × Frame)
 letters_in shard texts = map (λ text. (shard, frame_in text)) texts
 
--- two texts with one digest are told where a put found another metadata held
+-- two texts with one digest are told if a put found another metadata held
 abbrev pub TellsClash : PutAnswer → Option Collision → Type 0
 TellsClash (putting.OtherMetadata clash) (Some collision) =
     (collision.left ≡ clash.left) × (collision.right ≡ clash.right)
@@ -62,7 +62,8 @@ pub record PutsTo (digest : List ℕ → List ℕ) (old : World) (side : Side)
   pub state : new ≡ with_side side old mid
   pub collides : IfSome clash (λ collision. IsCollision digest collision.left collision.right)
 
--- what the puts of the letters from here come to is what those of all of them come to from there
+-- the result of putting the rest of the letters from here is that of putting all of them from the
+-- start
 abbrev pub Continues : (List ℕ → List ℕ) → World → List (ℕ × Frame) → Side → World
     → List (ℕ × Frame) → Type 0
 Continues digest old letters side here rest =

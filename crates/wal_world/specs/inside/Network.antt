@@ -55,7 +55,7 @@ pub record AreShards (f : ℕ) (shards : List ShardState) : Type 0 where
   pub each : (i : ℕ) (state : ShardState) → i < committee_size f
       → IsShardAt f i (slice_index_or shards i state)
 
--- those of the next committee: none while one serves
+-- the shards of the next committee: none unless the epoch changes
 abbrev pub AreNext : Option Books → List ShardState → Type 0
 AreNext (Some (Moving moving)) shards = AreShards moving.ledger.log.f shards
 AreNext _ shards = shards ≡ []

@@ -27,8 +27,8 @@ abbrev pub opposite : Side → Side
 opposite Now = Next
 opposite Next = Now
 
--- the shard of a side holds this from now on; all else of the network stays, but for what its
--- tables and buffers have in them
+-- the shard of a side holds this from now on; all else of the network stays, but for the contents
+-- of its tables and buffers
 pub record Places {H : Type 0} (side : Side) (old : Network H)
     (shard : ℕ) (contents : Contents) (new : Network H) : Type 0 where
   pub format : new.format ≡ old.format
@@ -41,7 +41,7 @@ pub record Places {H : Type 0} (side : Side) (old : Network H)
       ≡ placed (ledger_of old.books).log.f (shards_of side old) shard contents
   pub others : shards_of (opposite side) new ≡ shards_of (opposite side) old
 
--- what a shard holds once it was to forget a blob, by its answer
+-- what a shard holds once it was asked to forget a blob, by its answer
 abbrev pub LetsGo : Log → Contents → BlobId → Result (Unit {0}) Declined → Contents → Type 0
 LetsGo log old id (Ok done) new = MayForget log old id × (new ≡ without_slivers old id)
 LetsGo log old id (Err declined) new = (MayForget log old id → ⊥) × (new ≡ old)

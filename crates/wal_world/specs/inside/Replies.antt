@@ -1,5 +1,5 @@
--- Replies of shards, written into a network's buffer and taken out of it, and what a read of them
--- is compared with.
+-- Replies of shards, written into a network's buffer and taken from it, and what a read of them is
+-- compared with.
 use Rattle.std.specs.Prelude.{◌≡◌, ℕ, List, Option, Some, None}
 use Rattle.std.specs.FinMap as finmap
 use Rattle.wal_shape.specs.declared.metadata.BlobId.{BlobId}
@@ -20,7 +20,7 @@ use Rattle.wal_protocol.specs.Rules.{Rules}
 use Rattle.wal_protocol.specs.Step.{AgreesWithFirst, Differs, told_by}
 use Rattle.wal_theorem.specs.Instance.{IsBackedBy}
 
--- all of the network stays, but for what its tables and its buffer have in them
+-- all of the network stays, but for the contents of its tables and its buffer
 pub record IsLike {H : Type 0} (old new : Network H) : Type 0 where
   pub format : new.format ≡ old.format
   pub books : new.books ≡ old.books
@@ -41,7 +41,7 @@ IsAgreed old id answer new =
     AgreesWithFirst old.answers id (verdict_of answer)
     × (new ≡ record old { answers = answered old.answers id answer })
 
--- or the first one gives another one, and two texts collide
+-- or the first one gives another verdict, and two texts collide
 abbrev pub IsCompared : (List ℕ → List ℕ) → World → BlobId → First → Option Collision → World
     → Type 0
 IsCompared digest old id answer None new = IsAgreed old id answer new
@@ -72,7 +72,7 @@ ReadsOn rules old id payloads reading.Reject new =
     CompletesOn rules old id payloads reading.Reject verdict.Reject new
 ReadsOn rules old id payloads word new = rules.Reads id payloads word None × (new ≡ old)
 
--- one that ends in a collision
+-- a read that ends in a collision
 pub data CollidesOn (rules : Rules) (old : World) (id : BlobId)
     (payloads : List (List ℕ)) : Type 0 where
   both_metadata : rules.HasTwoMetadata id payloads → CollidesOn rules old id payloads

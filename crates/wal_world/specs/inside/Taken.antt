@@ -1,4 +1,4 @@
--- What an event comes to that may end in a collision.
+-- The result of an event that may end in a collision.
 use Rattle.std.specs.Prelude.{◌≡◌, ℕ, List, ⊤}
 use Rattle.wal_tree.specs.Collision.{IsCollision}
 use Rattle.wal_event.specs.declared.line.SendWord.{SendWord}
@@ -8,7 +8,7 @@ use Rattle.wal_shard.specs.declared.answers.PutAnswer.TheVariants as putting
 use Rattle.wal_world.specs.declared.taken.Taken.{Taken}
 use Rattle.wal_world.specs.declared.taken.Taken.TheVariants as taken
 
--- a word of which this is true, or two texts with one digest, of which that is
+-- a word of which this is true; or two texts with one digest, and that is true
 abbrev pub IsTaken : {W : Type 0} → (List ℕ → List ℕ) → (W → Type 0) → Type 0 → Taken W → Type 0
 IsTaken digest Says Collides (taken.Word word) = Says word
 IsTaken digest Says Collides (taken.Collision collision) =

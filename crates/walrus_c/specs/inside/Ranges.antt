@@ -7,7 +7,7 @@ use Rattle.wal_words.specs.declared.task.WholeTask.TheVariants.{Challenge, Check
 use Rattle.wal_words.specs.declared.task.WholeTask.TheVariants.{Image, Recover, Replay, Unpack}
 use Rattle.wal_words.specs.declared.task.WholeTask.TheVariants.{Bundle, Member, Verify, Gateway}
 
--- of a task that takes its whole input at once
+-- the ranges of a task that takes its whole input at once
 abbrev pub WholeInRange : WholeTask → Type 0
 WholeInRange (Encode f format) = (1 ≤ f) × (f ≤ 333)
 WholeInRange (Image size) = size ≤ 134217728
@@ -22,7 +22,7 @@ WholeInRange (Member id k) = Unit {0}
 WholeInRange (Challenge audit) = 1 ≤ audit.count
 WholeInRange (Gateway capacity) = Unit {0}
 
--- of any
+-- the ranges of any task
 abbrev pub InRange : Task → Type 0
 InRange (Whole task) = WholeInRange task
 InRange (Read id) = Unit {0}

@@ -2,7 +2,7 @@
 use Rattle.std.specs.Prelude.{ℕ, List, ◌++◌}
 use Rattle.walrus_c.specs.Words.{HasNoZero, AreWords}
 
--- of the text these words were read, and the front of the next one, and this is left
+-- these words of the text were read, and a prefix of the next one; this is left
 pub record ReadSoFar (words : List (List ℕ)) (word left text : List ℕ) : Type 0 where
   pub quiet : HasNoZero word
   pub goes_on : (rest : List (List ℕ)) → AreWords rest (word ++ left)

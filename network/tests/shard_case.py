@@ -1,0 +1,200 @@
+"""What the tests of shards share: a shard over its disk, and as much of a node as recovers blobs for it."""
+import asyncio
+import pathlib
+import random
+import struct
+import tempfile
+import types
+import unittest
+from typing import Any, Optional
+from unittest import mock
+
+from harness import lacking
+from walrus import client
+from walrus.frames import answer, code_of
+from walrus.network import judge, shard
+from walrus.network.judge import Judges
+from walrus.network.ledger import OPERATOR, Entry, Ledger, entry_key
+from walrus.network.local import find_program
+from walrus.network.store import Store
+from walrus.network.whole import Whole, place, request_of
+
+SMALL, LARGE = 1_000, 3_000  # bytes of the longest content in SQLite, here, and of a blob whose slivers are files
+
+
+class ShardCase(unittest.IsolatedAsyncioTestCase):
+    """Shard 0 of four, over a disk of its own."""
+
+    async def asyncSetUp(self) -> None:
+        asyncio.get_running_loop().set_debug(False)
+        folder = tempfile.TemporaryDirectory(prefix="walrus-shard-")
+        self.addCleanup(folder.cleanup)
+        self.path = pathlib.Path(folder.name) / "a.db"
+        self.enterContext(mock.patch("walrus.network.shard.SMALL", SMALL))
+        self.enterContext(mock.patch("walrus.network.staged.LATER", 99.0))  # nothing is committed of itself
+        self.walrus, self.ledger = client.Walrus(find_program()), Ledger()
+        self.judges = Judges(find_program(), 100_000_000)
+        self.addCleanup(self.judges.close)
+        self.store: Optional[Store] = None
+        self.apply(OPERATOR, "begin", 0, 1, "a,b,c,d")
+        self.open()
+
+        async def end() -> None:
+            self.close()
+
+        self.addAsyncCleanup(end)
+
+    def open(self) -> None:
+        """Opens the disk, as a start does."""
+        self.close()
+        self.store, self.damaged = Store(self.path), list[bytes]()
+        self.shard = self.side(0)
+
+    def close(self) -> None:
+        if self.store:
+            self.store.close()
+            self.store = None
+
+    def side(self, epoch: int) -> shard.Shard:
+        assert self.store
+        holding = self.store.begin(epoch, 0)
+        self.store.flush()
+        return shard.Shard(0, epoch, holding, self.ledger, self.store, self.judges, self.damaged.append)
+
+    def apply(self, poster: str, kind: str, *fields: object) -> None:
+        self.assertTrue(self.ledger.apply(Entry(self.ledger.revision + 1, entry_key(poster, kind, *fields))))
+
+    async def parts(self, blob: bytes, until: int = 9) -> list[bytes]:
+        """The metadata and the slivers of a registered blob."""
+        encoded = await self.walrus.encode(blob, 1)
+        self.apply("x", "register", encoded.identifier.hex(), until)
+        return [encoded.metadata, *encoded.slivers[0]]
+
+    async def put(self, blob: bytes) -> list[bytes]:
+        """Stores a blob's parts."""
+        assert self.store
+        parts = await self.parts(blob)
+        self.assertEqual([code_of(await self.shard.put(part)) for part in parts], [client.DONE] * 3)
+        self.assertTrue(self.store.flush())
+        return parts
+
+    async def whole(self, size: int) -> Whole:
+        """A registered blob, as it comes whole to the shard."""
+        encoded = await self.walrus.encode(bytes(range(250)) * (size // 250), 1)
+        self.apply("x", "register", encoded.identifier.hex(), 9)
+        data = b"".join(map(bytes, request_of(encoded, 0)))
+        memory = place(client.Shape(1), len(data))
+        memory[:] = data
+        found = Whole.read(client.Shape(1), memory)
+        assert found
+        return found
+
+    async def read(self, identifier: bytes) -> list[bytes]:
+        return (await self.shard.answer(client.write_frame(client.Read(identifier))))[:-1]
+
+    def free(self, part: float) -> Any:
+        """Has so much of the disk free."""
+        disk = types.SimpleNamespace(total=10**12, free=int(part * 10**12))
+        return mock.patch("walrus.network.shard.shutil.disk_usage", lambda _: disk)
+
+    def files(self) -> list[pathlib.Path]:
+        assert self.store
+        return sorted(it for it in self.store.files.folder.glob("*/*") if it.is_file())
+
+    async def left(self, count: int) -> None:
+        """Waits until so many files are left; a busy disk takes its time."""
+        for _ in range(2_400):
+            if len(self.files()) == count:
+                break
+            await asyncio.sleep(0.05)
+        self.assertEqual(len(self.files()), count)
+
+    def parts_of_files(self) -> dict[int, pathlib.Path]:
+        return {1 + it.read_bytes()[33]: it for it in self.files()}
+
+
+@unittest.skipIf(lacking(), f"{lacking()} is not here (network/install)")
+class NodeCase(ShardCase):
+    """As much of a node as recovers blobs for shard 0, from others that hold all of each."""
+
+    async def asyncSetUp(self) -> None:
+        await super().asyncSetUp()
+        self.drawn, self.others = random.Random(5), dict[bytes, client.Encoded]()
+        self.proofs = dict[bytes, bytes]()  # what the others have of a blob in place of slivers
+        self.silence = asyncio.Event()  # for whose end those wait who are silent
+        self.seats = [Other(self, number) for number in range(4)]
+        self.enterContext(mock.patch.object(random, "sample", lambda found, count: [*found]))
+        self.enterContext(mock.patch("walrus.shards.LEAST", 99.0))  # nobody is late, however slow this machine is
+        self.enterContext(mock.patch("walrus.shards.MOST", 99.0))
+
+    async def certified(self, blob: bytes, until: int = 9, of: str = "abc") -> bytes:
+        parts = await self.parts(blob, until)
+        for part in parts:
+            await self.shard.put(part)
+        for poster in of:
+            self.apply(poster, "ack", self.ledger.writing_epoch, parts[1][1:33].hex())
+        assert self.store
+        self.store.flush()
+        return parts[1][1:33]
+
+    def node(self, sides: dict[int, dict[int, shard.Shard]]) -> Any:
+        """As much of a node as a handover needs, which keeps what it posts."""
+        node = types.SimpleNamespace(name="a", store=self.store, ledger=self.ledger, sides=sides, posted=[], vouched=[])
+        node.caught_up, node.judges, node.repairs = True, self.judges, judge.Room(10_000_000)
+        node.unattested = set[bytes]()
+        node.peers = types.SimpleNamespace(seats=lambda owners, faults: self.seats)
+        node.port = types.SimpleNamespace(shape=client.Shape(1))
+
+        async def vouch(kind: str, filled: shard.Shard, request: bytes) -> list[bytes]:
+            node.vouched.append(request[1:33])
+            return [answer(13, 1)]
+
+        async def post(key: str) -> None:
+            node.posted.append(key)
+
+        async def until(holds: object, seconds: float) -> bool:
+            self.ledger.next = ()  # the move is over, so that the node does its part once
+            return True
+
+        node.recorders, node.until, node.vouch = types.SimpleNamespace(post=post), until, vouch
+        return node
+
+    async def lacks(self, size: int, certified: bool = True) -> bytes:
+        """A blob that the others have and the shard lacks."""
+        encoded = await self.walrus.encode(self.drawn.randbytes(size), 1)
+        self.apply("x", "register", encoded.identifier.hex(), 9)
+        for poster in "bcd" if certified else "":
+            self.apply(poster, "ack", self.ledger.writing_epoch, encoded.identifier.hex())
+        self.others[encoded.identifier] = encoded
+        return encoded.identifier
+
+
+class Other(client.Shard):
+    """A shard of another node, which notes what it is asked in each exchange."""
+
+    def __init__(self, case: NodeCase, number: int):
+        super().__init__(number, 1)
+        self.case, self.name, self.asked = case, "abcd"[number], list[int]()
+        self.fails = self.clashes = self.silent = False
+
+    async def ask(self, *requests: bytes) -> list[client.Reply]:
+        self.asked.append(len(requests))
+        if self.silent:
+            await self.case.silence.wait()
+        if self.fails:
+            raise ConnectionError("it is told to fail")
+        if self.clashes:
+            return [client.Reply({}, client.Clash(b"\x31\x01a\x01b"))]  # which ends its reply, whatever was asked
+        encoded = self.case.others[requests[0][1:33]]
+        told = [client.write_frame(client.RegisterEntry(encoded.identifier, 9)), encoded.metadata]
+        proof = self.case.proofs.get(encoded.identifier)
+        told += [proof] if proof else encoded.slivers[self.number]
+        told, count = [*told, *requests], len(requests)
+        said = await asyncio.to_thread(judge.judge, self.case.judges.engine, 1, self.number, told)
+        return [
+            client.Reply(
+                {self.shape.keeps(it, request, self.number): bytes(it) for it in reply[:-1]},
+                client.Answer(*struct.unpack(">BII", reply[-1][1:])),
+            )
+            for request, reply in zip(requests, said[-count:])
+        ]

@@ -1,0 +1,21 @@
+"""What the tests of who is slow share: a network that waits for longer than any test may take."""
+from unittest import mock
+
+from http_case import GatewayCase
+from walrus.network.gateway import Options
+
+LONG, ENOUGH = 1_200.0, 300.0  # seconds for which who is slow is waited for, and in which a test ends else
+
+
+class SlowCase(GatewayCase):
+    """A network and a gateway that are patient."""
+
+    options = Options(seconds=1, challenge=0, patience=LONG)
+
+    async def asyncSetUp(self) -> None:
+        await super().asyncSetUp()
+        self.local.options |= {"heal": 3_600}
+        names = ["network.reading.SILENCE", "network.reading.GRACE", "network.client.LATE"]  # of clients, and of nodes
+        for name in (*(f"walrus.{it}" for it in names), "asyncio.constants.SSL_HANDSHAKE_TIMEOUT"):
+            self.enterContext(mock.patch(name, LONG))
+        await self.start()

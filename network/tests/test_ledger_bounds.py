@@ -1,0 +1,187 @@
+"""What one name may leave in the ledger, at all who follow it, is bounded, whatever it says and keeps to itself."""
+import asyncio
+import random
+import types
+import unittest
+import zlib
+from typing import Any, Mapping
+from unittest import mock
+
+from ledger_case import FOUNDED, FOUR, Chain, LedgerCase, Memory, registration
+from walrus import client
+from walrus.frames import answer
+from walrus.network import blobs, intake, recorder, shard
+from walrus.network.entries import ACK, ATTEST, OPERATOR, Entry, entry_key
+from walrus.network.keeping import Keeper
+from walrus.network.ledger import ADDRESSES, Ledger
+from walrus.network.node import Node
+from walrus.network.state import State
+from walrus.network.whole import Whole
+
+NODES = FOUR.split(",")
+NAMES = [bytes([number]) * 32 for number in range(3)]
+
+
+def turn(epoch: int) -> list[str]:
+    """What is posted to come to an epoch, with the same committee."""
+    begin = entry_key(OPERATOR, "begin", epoch, 1, FOUR)
+    return [begin, *(entry_key(it, "ready", epoch) for it in NODES[:3]), entry_key("node-0", "finish", epoch)]
+
+
+def entered(ledger: Ledger, *texts: str) -> list[object]:
+    """The lines of these entries, which come next."""
+    return [ledger.apply(Entry(ledger.revision + 1, text)) for text in texts]
+
+
+def uncounted(votes: Mapping[int, frozenset[int]], first: object) -> dict[int, frozenset[int]]:
+    """All votes, as former versions kept them."""
+    return dict(votes)
+
+
+class Waits(unittest.IsolatedAsyncioTestCase):
+    """A checkpoint that one node of four is never past, and a keeper that waits for ever."""
+
+    async def asyncSetUp(self) -> None:
+        asyncio.get_running_loop().set_debug(False)
+        self.memory = Memory()
+        self.recorder = recorder.Recorder(self.memory)
+        self.addCleanup(self.recorder.state.close)
+        self.keeper = Keeper(self.recorder, 1e9)
+        await self.recorder.catch_up()
+        await self.post(FOUNDED, *turn(1))
+        await self.keeper.look()
+        await self.post(*(entry_key(it, "past", 1) for it in NODES[:3]))
+        self.assertFalse(await self.dropped())
+
+    async def post(self, *texts: str) -> None:
+        for text in texts:
+            said = self.recorder.post([text])
+            await self.recorder.append()
+            self.assertIsInstance((await said)[0], int)
+
+    async def dropped(self) -> bool:
+        """Whether what was before it is dropped, once the keeper has looked again."""
+        for _ in range(2):
+            await self.keeper.look()
+        [mark] = {it.place for it in self.memory.marked}
+        return self.memory.marked[-1].dropped and min(self.memory.kept) > mark
+
+    async def test_no_node_is_waited_for_once_etcd_is_nearly_full(self) -> None:
+        self.memory.used = 740  # of a thousand
+        self.assertFalse(await self.dropped())
+        self.memory.used = 760
+        self.assertTrue(await self.dropped())
+
+    async def test_a_node_that_is_expelled_is_not_waited_for(self) -> None:
+        await self.post(entry_key(OPERATOR, "expel", NODES[3]))
+        self.assertTrue(await self.dropped())
+
+
+class Told(LedgerCase):
+    async def test_etcd_tells_its_quota(self) -> None:
+        self.assertEqual(await self.recorders[0].etcd.quota(), 2**30)
+
+
+class Addresses(unittest.TestCase):
+    def test_a_name_tells_so_many_addresses_in_an_epoch_and_no_more(self) -> None:
+        kept = State()
+        self.addCleanup(kept.close)
+        texts = [f"x/address/host-{number}/9" for number in range(ADDRESSES + 1)]
+        self.assertEqual({*entered(kept.ledger, FOUNDED, *texts[:-1])}, {"founded", "entered"})
+        other = State()  # who takes a checkpoint counts on
+        self.addCleanup(other.close)
+        kept.save(Chain(kept.ledger.revision, bytes(32)))
+        asyncio.run(other.take([zlib.compress(it) for it in kept.written()]))
+        for ledger in (kept.ledger, other.ledger):
+            self.assertEqual(
+                ledger.fork().refused(Entry(99, texts[-1])), f"x has told {ADDRESSES} addresses in this epoch"
+            )
+            self.assertEqual(entered(ledger, texts[-1], f"y/{texts[-1][2:]}"), [None, "entered"])
+            self.assertEqual(ledger.addresses["x"][0], f"host-{ADDRESSES - 1}")
+            self.assertEqual(entered(ledger, *turn(1), texts[-1])[-2:], ["epoch 1", "entered"])
+
+
+class Votes(unittest.TestCase):
+    def test_a_node_that_says_so_in_each_epoch_leaves_little(self) -> None:
+        ledger = Ledger()
+        entered(ledger, FOUNDED, registration("x", 1, 99))
+        for epoch in range(1, 60):
+            words = [f"node-3/{kind}/{epoch - 1}/{1:064x}" for kind in (ACK, ATTEST)]
+            said = entered(ledger, *(f"{it}/ack/0/{1:064x}" for it in NODES[:3] * (epoch == 1)), *words, *turn(epoch))
+            self.assertEqual((said[-1], None in said), (f"epoch {epoch}", False))
+        [row] = ledger.blobs.flush().execute("SELECT votes, certified, invalid FROM blobs")
+        self.assertEqual(row, ('[{"0":15,"57":8,"58":8},{"57":8,"58":8}]', 0, None))
+        self.assertEqual(ledger.certificate((1).to_bytes(32, "big")), (0, 4))
+
+    def history(self, drawn: random.Random) -> list[str]:
+        """Entries of some thirty epochs, each of which may be behind a move that lasts."""
+        texts = [FOUNDED, *(f"x/register/{it.hex()}/{drawn.randrange(3, 50)}" for it in NAMES)]
+        for epoch in range(30):
+            for word in turn(epoch + 1):
+                writing = epoch + ("/begin/" not in word)
+                for _ in range(drawn.choice((0, 0, 1, 6))):
+                    kind = drawn.choice((ACK, ATTEST))
+                    texts.append(f"{drawn.choice(NODES)}/{kind}/{writing}/{drawn.choice(NAMES).hex()}")
+                texts.append(word)
+        return texts
+
+    def asked(self, ledger: Ledger) -> list[object]:
+        """All that the rules, nodes and pages ask of votes."""
+        epochs, found = [ledger.epoch, ledger.epoch + 1], list[object]([ledger.must_hold(), ledger.blobs.counts()])
+        for it in NAMES:
+            found += [ledger.certificate(it), ledger.invalid(it), ledger.home_epoch(it)]
+            found += [ledger.voted(kind, it, node) for kind in (ACK, ATTEST) for node in NODES]
+            found += [shard.entries_of(ledger, epoch, it) for epoch in epochs]
+            if blob := ledger.blobs.get(it):
+                found += [blob.votes[kind].get(epoch, set()) for kind in (ACK, ATTEST) for epoch in epochs]
+        return found
+
+    def test_without_votes_that_count_no_more_all_is_as_with_them(self) -> None:
+        """Whoever takes a checkpoint of a former version, which has them, would write the same as all others."""
+        fewer = 0
+        for seed in range(4):
+            lean, whole, chain = State(), State(), Chain(0, bytes(32))
+            for place, text in enumerate(self.history(random.Random(seed)), 1):
+                with mock.patch.object(blobs, "counting", uncounted):
+                    line = whole.ledger.apply(Entry(place, text))
+                self.assertEqual(lean.ledger.apply(Entry(place, text)), line)
+                self.assertEqual(self.asked(lean.ledger), self.asked(whole.ledger))
+                chain = chain.behind([text])
+                if place % 20 == 0:
+                    for each in (lean, whole):
+                        each.save(chain)
+                    pieces, taken = [*whole.written()], State()
+                    asyncio.run(taken.take([*map(zlib.compress, pieces)]))
+                    self.assertEqual([*taken.written()], [*lean.written()])
+                    fewer += pieces != [*lean.written()]
+                    taken.close()
+            lean.close()
+            whole.close()
+        self.assertGreater(fewer, 20)
+
+
+class Words(unittest.IsolatedAsyncioTestCase):
+    async def test_what_an_earlier_committee_certified_is_acknowledged_by_no_node_again(self) -> None:
+        """Anybody may ask for that, in each epoch and for each blob."""
+        asyncio.get_running_loop().set_debug(False)
+        ledger, name = Ledger(), (1).to_bytes(32, "big")
+        entered(ledger, FOUNDED, registration("x", 1, 9), *(f"{it}/ack/0/{name.hex()}" for it in NODES[:3]))
+        node: Any = types.SimpleNamespace(name=NODES[3], ledger=ledger, until=mock.AsyncMock(), port=mock.Mock())
+        node.store = mock.Mock(losses=0, durable=mock.AsyncMock(return_value=True))
+        node.recorders, taken = mock.Mock(post=mock.AsyncMock()), intake.Intake(node)
+        said = mock.AsyncMock(return_value=[answer(14, 3)])  # by the judge
+        self.enterContext(mock.patch.object(Whole, "read", return_value=mock.Mock(identifier=name)))
+        for epoch in (0, 1):
+            own = mock.Mock(epoch=epoch, answer=said, put_whole=said)
+            node.sides = {epoch: {3: own}}
+            words = await Node.vouch(node, ACK, own, client.write_frame(client.Ack(name)))
+            self.assertEqual(await taken.store(3, memoryview(b"")), [answer(client.DONE)])
+            await asyncio.sleep(0.1)
+            self.assertEqual((node.recorders.post.await_count, node.recorders.leave.call_count), (1, 1))
+            entered(ledger, *turn(1))
+        self.assertEqual(words, [answer(14, 3)])
+        await taken.close()
+
+
+if __name__ == "__main__":
+    unittest.main()

@@ -1,0 +1,137 @@
+"""Who has many connections to a recorder, sends halves, or follows and reads nothing."""
+import asyncio
+import contextlib
+import socket
+import time
+import unittest
+import zlib
+from unittest import mock
+
+from ledger_case import LedgerCase, registration
+from walrus.network import connections, recorder, recording
+from walrus.network.etcd import Batch
+from walrus.network.entries import OPERATOR, entry_key
+
+
+class Connections(LedgerCase):
+    async def test_halves_of_bodies_and_slow_ones(self) -> None:
+        host, _, port = self.local.told()["recorders"][0].rpartition(":")
+        head = "POST /v1/entries HTTP/1.1\r\nHost: x\r\nContent-Length: 5000\r\n\r\n[".encode()
+        opened = []
+        self.enterContext(mock.patch.object(recording, "REQUEST", 600.0))
+        self.enterContext(mock.patch.object(connections, "FIRST", 600.0))
+        for sent in (head, head[:20], b"", b"GET / HTTP/1.1\r\n" + b"X: y\r\n" * 5_000, b"\x16\x03" * 99):
+            for _ in range(8):
+                _, writer = await asyncio.open_connection(host, int(port), ssl=self.context("publisher"))
+                writer.write(sent)
+                opened.append(writer)
+        await self.user("publisher", 0).post(registration("publisher", 1), 120)
+        self.assertGreaterEqual(self.services[0].connected["publisher"], 24)  # these wait still
+        for writer in opened:
+            writer.transport.abort()
+
+    async def opened(self, name: str, count: int) -> list[tuple[asyncio.StreamReader, asyncio.StreamWriter]]:
+        """So many connections with a recorder."""
+        host, _, port = self.local.told()["recorders"][0].rpartition(":")
+        context, opened = self.context(name), list[tuple[asyncio.StreamReader, asyncio.StreamWriter]]()
+        for _ in range(count):
+            with contextlib.suppress(OSError):
+                opened.append(await asyncio.open_connection(host, int(port), ssl=context))
+                self.addCleanup(opened[-1][1].transport.abort)
+        return opened
+
+    async def answered(self, opened: list[tuple[asyncio.StreamReader, asyncio.StreamWriter]], status: int) -> int:
+        """How many of some connections answer so."""
+        found = 0
+        for reader, writer in opened:
+            with contextlib.suppress(OSError, asyncio.IncompleteReadError, TimeoutError):
+                writer.write(b"GET /v1/status HTTP/1.1\r\nHost: x\r\n\r\n")
+                async with asyncio.timeout(60):
+                    head = await reader.readuntil(b"\r\n\r\n")
+                    await reader.readexactly(int(head.lower().partition(b"content-length: ")[2].split()[0]))
+                found += head.startswith(f"HTTP/1.1 {status} ".encode())
+        return found
+
+    async def test_no_name_has_all_connections_and_one_too_many_is_ended(self) -> None:
+        await self.newcomer("mallory")
+        recorder, connected = self.recorders[0], self.services[0].connected
+        await self.user(OPERATOR, 0).post(registration(OPERATOR, 1))
+        many = await self.opened("mallory", recording.OF_NAME + 20)
+        self.assertEqual(await self.answered(many, 200), recording.OF_NAME)
+        self.assertEqual(sum(not reader.at_eof() and not reader.exception() for reader, _ in many), recording.OF_NAME)
+        await self.user(OPERATOR, 0).post(entry_key(OPERATOR, "expel", "mallory"))
+        self.assertIn("mallory", recorder.ledger.expelled)
+        self.assertEqual(await self.answered(many, 403), recording.OF_NAME)
+        async with asyncio.timeout(120):
+            while connected["mallory"]:
+                await asyncio.sleep(0.05)
+        self.assertEqual(await self.answered(await self.opened("mallory", 20), 403), recording.OF_OTHERS)
+
+    async def test_connections_of_many_names_are_bounded_too(self) -> None:
+        with mock.patch.object(recording, "CONNECTIONS", 20):
+            opened = await self.opened("publisher", 30)
+            self.assertLessEqual(await self.answered(opened, 200), 20)
+            async with asyncio.timeout(120):
+                while self.services[0].connected.total() > 20:
+                    await asyncio.sleep(0.05)
+            self.assertGreaterEqual(sum(reader.at_eof() or bool(reader.exception()) for reader, _ in opened), 10)
+
+    async def test_who_follows_holds_no_more_of_the_ledger_than_is_kept_for_all(self) -> None:
+        asked = self.recorders[0]
+        await asked.refresh()
+        chain = asked.chain
+        for _ in range(20):
+            batch = Batch(chain, ["x" * 16_000] * (recorder.MOST_BATCH // 16_000))
+            after = asked.head(batch.after)
+            self.assertEqual(await asked.etcd.append(asked.head(chain), after, batch), (after, []))
+            chain = batch.after
+        read = await asked.etcd.batches(1)
+        self.assertTrue(0 < sum(it.size for it in read) <= recorder.RECENT)
+
+    async def test_what_is_packed_stays_so(self) -> None:
+        """A body that would be a thousand times longer is no JSON, and no room is taken for it."""
+        for packing in ("deflate", "gzip"):
+            body = zlib.compress(b" " * 400_000 + b"[]", 9, 15 if packing == "deflate" else 31)
+            headers = {"Content-Encoding": packing}
+            said = await self.ask("publisher", "POST", "/v1/entries", data=body, headers=headers)
+            self.assertEqual((said[0], "no JSON" in said[1]["error"]), (400, True))
+
+    async def test_who_follows_and_reads_nothing_is_let_go_and_holds_up_nobody(self) -> None:
+        for service in self.services:
+            for listening in service.listening:
+                listening.setsockopt(socket.SOL_SOCKET, socket.SO_SNDBUF, 4_096)  # what the system holds for a client
+        host, _, port = self.local.told()["recorders"][0].rpartition(":")
+        user, texts = self.user("publisher", 0), [registration("publisher", number) for number in range(6_000)]
+        begun = time.monotonic()
+        await asyncio.gather(*(user.post(text, 100) for text in texts[:600]))
+        usual = time.monotonic() - begun  # with nobody idle, on a machine as busy as this one is
+        idle = list[asyncio.StreamWriter]()
+        with mock.patch.object(recording, "REQUEST", 2.0):
+            for _ in range(8):
+                narrow = socket.socket()
+                narrow.setsockopt(socket.SOL_SOCKET, socket.SO_RCVBUF, 4_096)
+                narrow.connect((host, int(port)))
+                words = {"ssl": self.context("publisher"), "server_hostname": host, "limit": 1}
+                _, writer = await asyncio.open_connection(sock=narrow, **words)
+                writer.write(b"GET /v1/entries?after=0 HTTP/1.1\r\nHost: x\r\n\r\n")
+                writer.transport.pause_reading()  # type: ignore[attr-defined]
+                idle.append(writer)
+            begun = time.monotonic()
+            async with self.following(user) as view:
+                for served in self.services[0].runner.server.connections:  # type: ignore[union-attr]
+                    served.transport.set_write_buffer_limits(0)  # what the recorder holds for a client
+                places = await asyncio.gather(*(user.post(text, 300) for text in texts[600:]))
+                self.assertTrue(await view.until(lambda _: view.chain.place >= max(places), 60))
+            self.assertLess(time.monotonic() - begun, 50 + 20 * usual)
+            for _ in range(200):
+                if not self.services[0].busy["publisher"]:
+                    break
+                await asyncio.sleep(0.1)
+        self.assertEqual(self.services[0].busy["publisher"], 0)  # none of them is answered any more
+        self.assertLess(self.recorders[0].size, recorder.RECENT)
+        for writer in idle:
+            writer.transport.abort()
+
+
+if __name__ == "__main__":
+    unittest.main()

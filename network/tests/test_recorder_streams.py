@@ -1,0 +1,102 @@
+"""Who follows a recorder, and who posts to it, whatever it says."""
+import asyncio
+import contextlib
+import json
+import pathlib
+import shutil
+import ssl
+import tempfile
+import unittest
+from unittest import mock
+
+from aiohttp import web
+from ledger_case import LedgerCase
+from walrus.network import follower
+from walrus.network.follower import Parted, Refused, Unreachable, View
+from walrus.network.entries import Chain, Entry
+from walrus.network.local import Local
+
+
+class Streams(LedgerCase):
+    """A recorder of this test's own says what it is told, line by line, for one stream after the other."""
+
+    async def asyncSetUp(self) -> None:
+        self.folder = pathlib.Path(tempfile.mkdtemp(prefix="walrus-ledger-"))
+        self.addCleanup(shutil.rmtree, self.folder, ignore_errors=True)
+        self.local = Local(self.folder)
+        self.local.recorders = ["recorder-0", "recorder-1"]
+        await self.copy_certificates()
+        self.streams, self.asked, self.posts = list[tuple[int, list[object]]](), list[int](), list[tuple[int, object]]()
+        app = web.Application()
+        app.add_routes([web.get("/v1/entries", self.follow), web.post("/v1/entries", self.take)])
+        runner = web.AppRunner(app)
+        await runner.setup()
+        self.addAsyncCleanup(runner.cleanup)
+        context = ssl.create_default_context(ssl.Purpose.CLIENT_AUTH)
+        context.load_cert_chain(self.folder / "recorder-0.crt", self.folder / "recorder-0.key")
+        await web.TCPSite(runner, "127.0.0.1", 0, shutdown_timeout=0.1, ssl_context=context).start()
+        told = self.local.told() | {"recorders": [f"127.0.0.1:{runner.addresses[0][1]}"]}
+        (self.folder / "network.json").write_text(json.dumps(told))
+        self.recorders, self.birth = self.user("publisher"), Chain(0, bytes(32))
+
+    async def follow(self, request: web.Request) -> web.StreamResponse:
+        self.asked.append(int(request.query["after"]))
+        status, lines = self.streams.pop(0)
+        response = web.StreamResponse(status=status)
+        await response.prepare(request)
+        for line in lines:
+            await response.write((line if isinstance(line, bytes) else json.dumps(line).encode()) + b"\n")
+        return response
+
+    async def take(self, request: web.Request) -> web.Response:
+        status, said = self.posts.pop(0)
+        return web.json_response(said, status=status)
+
+    def first(self, chain: Chain) -> dict[str, object]:
+        return {"ledger": "00" * 32, "head": 2, "entries": [], "digest": chain.digest.hex()}
+
+    async def test_what_ends_a_stream_passes(self) -> None:
+        one, two = self.birth.behind(["a/ready/1"]), self.birth.behind(["a/ready/1", "b/ready/1"])
+        begun, more = self.first(self.birth), {"entries": ["a/ready/1"], "digest": one.digest.hex()}
+        self.streams = [(503, [{"error": "etcd is slow"}]), (200, []), (200, [b"no JSON"]), (200, [{}]), (500, [b""])]
+        self.streams += [(200, [begun]), (200, [begun, more, b"{"]), (200, [self.first(one), {"entries": 7}])]
+        self.streams += [(200, [self.first(one), {"entries": ["b/ready/1"], "digest": two.digest.hex()}])]
+        found = list[Entry]()
+        with mock.patch.object(follower.asyncio, "sleep", mock.AsyncMock()):
+            async with contextlib.aclosing(self.recorders.follow(None)) as following:  # type: ignore[type-var]
+                async for news in following:
+                    found += news.entries
+                    if news.chain.place == 2:
+                        break
+        self.assertEqual(found, [Entry(1, "a/ready/1"), Entry(2, "b/ready/1")])
+        self.assertEqual((self.asked, news.chain), ([0] * 7 + [1] * 2, two))
+
+    async def test_another_ledger_and_a_lacking_right_end_who_follows(self) -> None:
+        begun, odd = self.first(self.birth), {"entries": ["a/ready/1"], "digest": "11" * 32}
+        for status, lines, kind, said in (
+            (409, [{"error": "the ledger ends at place 1"}], Parted, "^the ledger ends at place 1$"),
+            (403, [{"error": "publisher is expelled"}], Refused, "^publisher is expelled$"),
+            (200, [begun, odd], Parted, "the entries up to 1 have another digest than the ledger"),
+        ):
+            self.streams, view = [(503, [{"error": "x"}]), (status, lines)], View(self.recorders)
+            waits = asyncio.create_task(view.until(lambda it: it.now))
+            with self.assertRaisesRegex(kind, said):
+                await asyncio.wait_for(view.follow(), 20)
+            with self.assertRaisesRegex(Unreachable, "the ledger is not followed any more: " + said.strip("^$")):
+                await waits
+
+    async def test_a_post_is_tried_again_until_it_is_answered(self) -> None:
+        again = [(503, {"error": "etcd is slow"}), (500, "?"), (200, []), (200, {"error": 1}), (429, {"error": "busy"})]
+        self.posts = [*again, (200, [{"place": 7}])]
+        self.assertEqual(await self.recorders.post("publisher/ready/1"), 7)
+        for status in (400, 403, 413):
+            self.posts = [(status, {"error": "no"})]
+            with self.assertRaisesRegex(Refused, "^no$"):
+                await self.recorders.post("publisher/ready/1")
+        self.posts = [(200, [{"refused": "only operator says that"}])]
+        with self.assertRaisesRegex(Refused, "^only operator says that$"):
+            await self.recorders.post("publisher/begin/1/1/a,b,c,d")
+
+
+if __name__ == "__main__":
+    unittest.main()

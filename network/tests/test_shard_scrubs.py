@@ -1,0 +1,117 @@
+"""What a scrub of a shard reads, finds and drops."""
+import asyncio
+import json
+import time
+import types
+import unittest
+from unittest import mock
+
+from harness import lacking
+from shard_case import LARGE, NodeCase
+from walrus.frames import METADATA, PRIMARY
+from walrus.network import scrub
+from walrus.network.ledger import OPERATOR, Entry, Ledger, entry_key
+
+
+@unittest.skipIf(lacking(), f"{lacking()} is not here (network/install)")
+class Scrubs(NodeCase):
+    async def test_a_scrub_reads_no_more_than_its_rate_and_does_not_make_up_for_lost_time(self) -> None:
+        for size in (900, 3_000, 2_000, 90, 2_500):
+            await self.put(self.drawn.randbytes(size))
+        now, sleep, check, read = 1_000.0, asyncio.sleep, self.shard.check, list[tuple[float, int]]()
+
+        async def sleeping(seconds: float) -> None:
+            nonlocal now
+            now += max(seconds, 0)
+            await sleep(0)
+
+        async def checking(identifier: bytes) -> tuple[int, bool]:
+            nonlocal now
+            begun, found = now, await check(identifier)
+            now += 30.0 if len(read) == 1 else 0.5  # in which it is judged; once for long
+            read.append((begun, found[0]))
+            return found
+
+        node = self.node({0: {0: self.shard}})
+        node.settings = types.SimpleNamespace(scrub=30.0, scrub_rate=1_000)
+        done = scrub.Scrub(node)
+        clock = types.SimpleNamespace(monotonic=lambda: now, time=lambda: now)
+        with mock.patch.object(scrub, "time", clock), mock.patch.object(asyncio, "sleep", sleeping):
+            with mock.patch.object(self.shard, "check", checking):
+                await done.scrub()
+        self.assertEqual((done.figures.blobs, done.figures.wrong, len(read)), (5, 0, 5))
+        self.assertGreater(min(size for _, size in read), 90)
+        ends = [begun for begun, _ in read[1:]] + [now]
+        for (begun, size), end in zip(read, ends):
+            self.assertGreaterEqual(end - begun, max(size, scrub.LEAST) / 1_000 - 1e-6)  # until the next one is read
+
+    async def test_a_scrub_that_ended_while_the_clock_was_ahead_keeps_none_from_beginning(self) -> None:
+        assert self.store
+        node, now, begun = self.node({0: {0: self.shard}}), time.time(), asyncio.Event()
+        node.settings = types.SimpleNamespace(scrub=1.0, scrub_rate=1_000)
+        done = scrub.Scrub(node)
+        done.figures.ended = now + 365 * scrub.DAY
+        done.note()
+
+        async def scrubbing() -> None:
+            begun.set()
+            await asyncio.Event().wait()
+
+        clock = types.SimpleNamespace(monotonic=time.monotonic, time=lambda: now)
+        with mock.patch.multiple(scrub, LOOKED=0.01, time=clock), mock.patch.object(done, "scrub", scrubbing):
+            task = asyncio.create_task(done.run())
+            await asyncio.sleep(0.1)
+            self.assertFalse(begun.is_set())
+            self.assertEqual(json.loads(self.store.state("scrub"))["ended"], now)  # for the next start too
+            now += 1.01 * scrub.DAY
+            await asyncio.wait_for(begun.wait(), 30)
+            task.cancel()
+
+    async def test_a_scrub_drops_what_the_whole_ledger_no_longer_has(self) -> None:
+        """Such as what expired by a checkpoint behind which the node was killed."""
+        assert self.store
+        kept, over = [(await self.put(data))[1][1:33] for data in (b"kept", bytes(LARGE))]
+        node = self.node({0: {0: self.shard}})
+        node.settings = types.SimpleNamespace(scrub=30.0, scrub_rate=10**9)
+        node.ledger = types.SimpleNamespace(blobs={kept: None})
+        self.assertGreater(count := len(self.files()), 0)
+        for heard, held, files in ((False, [3, 3], count), (True, [3, 0], 0)):
+            node.caught_up = heard
+            await scrub.Scrub(node).scrub()
+            await self.left(files)
+            sizes = [self.store.sizes(self.shard.holding, 0, name) for name in (kept, over)]
+            self.assertEqual([*map(len, sizes)], held)
+
+    async def test_what_is_wrong_stays_so_while_nothing_is_judged_of_it(self) -> None:
+        """Else a node without its ledger, or beside the committee behind a blob's last epoch, would call it held."""
+        assert self.store
+        name = (await self.put(self.drawn.randbytes(700)))[1][1:33]
+        self.store.mark(self.shard.holding, name, PRIMARY, True)
+        unheard = Ledger()
+        unheard.apply(Entry(1, entry_key(OPERATOR, "begin", 0, 1, "a,b,c,d")))
+        for is_known, wrong in ((False, {PRIMARY}), (True, set())):
+            self.shard.ledger = self.ledger if is_known else unheard
+            found = await self.shard.check(name)
+            self.assertEqual((self.store.wrong(self.shard.holding, name), found[1]), (wrong, is_known))
+
+    async def test_a_scrub_passes_over_what_a_shard_held_that_is_here_no_more(self) -> None:
+        """A node that gives a large shard away in the midst of a scrub serves others meanwhile."""
+        assert self.store
+        gone, count = self.store.stage("INSERT INTO holdings VALUES (NULL)").lastrowid, 500
+        rows = ((gone, self.drawn.randbytes(32), METADATA, 0, None, 0, 274, 1) for _ in range(count))
+        self.store.base.executemany("INSERT INTO held VALUES (?, ?, ?, ?, ?, ?, ?, ?)", rows)
+        name = await self.certified(b"it is held")
+        node = self.node({0: {0: self.shard}})
+        node.settings = types.SimpleNamespace(scrub_rate=1_000_000)
+        for node.caught_up in (False, True):
+            scrubbing = scrub.Scrub(node)
+            following = mock.Mock(side_effect=self.store.next)
+            with mock.patch.object(self.store, "next", following), mock.patch.object(scrubbing, "sweep"):
+                await scrubbing.scrub()
+            self.assertLess(following.call_count, 5)
+            self.assertEqual(scrubbing.figures.blobs, 1)
+        self.assertTrue(self.shard.settled(name))
+
+
+if __name__ == "__main__":
+    unittest.main()

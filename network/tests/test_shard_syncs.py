@@ -1,0 +1,160 @@
+"""What a shard tells and stores while its disk syncs for long, or fails to."""
+import asyncio
+import contextlib
+import io
+import os
+import pathlib
+import sqlite3
+import tempfile
+import threading
+import types
+import unittest
+from typing import Any
+from unittest import mock
+
+import harness  # noqa: F401  # which says where walrus is
+from walrus.frames import METADATA, PRIMARY
+from walrus.network.node import Node
+from walrus.network.store import Store
+
+
+class Slow(unittest.IsolatedAsyncioTestCase):
+    """A store over a disk that takes long to sync, or does not."""
+
+    async def asyncSetUp(self) -> None:
+        asyncio.get_running_loop().set_debug(False)
+        self.folder = pathlib.Path(self.enterContext(tempfile.TemporaryDirectory(prefix="walrus-slow-")))
+        self.syncs, self.goes_on, self.fault = list[int](), threading.Semaphore(0), None  # type: Any, Any, Any
+        self.enterContext(mock.patch("os.fdatasync", self.sync))
+        self.enterContext(mock.patch("walrus.network.staged.LATER", 99.0))
+        self.told = list[Exception]()
+        self.store = Store(self.folder / "a.db", fail=self.told.append)
+        self.store.begin(0, 0)
+
+        async def end() -> None:
+            for _ in range(9):
+                self.goes_on.release()
+            self.store.close()
+
+        self.addAsyncCleanup(end)
+
+    def sync(self, file: Any) -> None:
+        self.syncs.append(file.fileno())
+        self.goes_on.acquire()
+        if self.fault:
+            raise self.fault
+
+    def put(self, number: int) -> "asyncio.Future[bool]":
+        self.store.put(1, 0, bytes([number]) * 32, METADATA, b"metadata", None)
+        written = self.store.written()
+        assert written
+        return written
+
+    async def begun(self, count: int) -> None:
+        """Waits until so many syncs have begun."""
+        async with asyncio.timeout(60):
+            while len(self.syncs) < count:
+                await asyncio.sleep(0.001)
+
+    async def test_nothing_is_told_before_a_thread_has_synced_it_and_others_go_on_meanwhile(self) -> None:
+        first = self.put(1)
+        await self.begun(1)
+        self.assertEqual((first.done(), self.store.sizes(1, 0, bytes([1]) * 32)), (False, {METADATA: 8}))
+        self.assertIs(self.store.written(), first)  # of nothing else, such as a part that comes again
+        second, third = self.put(2), self.put(3)
+        self.assertTrue(self.store.flush())
+        fourth = self.put(4)
+        self.assertTrue(self.store.flush())
+        await asyncio.sleep(0.05)
+        self.assertEqual((len(self.syncs), first.done(), second.done()), (1, False, False))
+        self.goes_on.release()
+        self.assertTrue(await first)
+        await self.begun(2)
+        self.assertEqual((second is third, second.done(), fourth.done()), (True, False, False))
+        self.goes_on.release()
+        self.assertEqual(await asyncio.gather(second, fourth), [True, True])  # by one sync
+        self.assertEqual((len(self.syncs), self.told), (2, []))
+        self.assertTrue(os.path.samestat(os.fstat(self.syncs[0]), os.stat(self.folder / "a.db-wal")))
+
+    async def test_behind_a_sync_that_fails_nothing_is_told_to_be_there(self) -> None:
+        file = self.store.files.write(bytes(32), b"before")[0]
+        self.store.put(1, 0, bytes(32), PRIMARY, b"before", file)
+        self.assertTrue(self.store.flush())
+        self.goes_on.release()
+        self.assertTrue(await self.store.durable())
+        self.store.expire([bytes(32)])
+        first, self.fault = self.put(1), OSError(5, "Input/output error")
+        await self.begun(2)
+        second = self.put(2)
+        self.assertTrue(self.store.flush())
+        self.goes_on.release()
+        self.assertEqual(await asyncio.gather(first, second), [False, False])
+        self.fault = None
+        self.assertFalse(await self.put(3))
+        self.assertEqual(len(self.syncs), 2)
+        self.assertRegex(str(self.told[0]), "the log of .* is not synced: Input/output error; look at the disk before")
+        self.assertTrue(self.store.files.path(file).exists())  # as the disk may still name it
+
+    async def test_a_node_ends_by_a_sync_that_fails(self) -> None:
+        node: Any = types.SimpleNamespace(failed=asyncio.get_running_loop().create_future())
+        self.store.fail, self.fault = types.MethodType(Node.fail, node), OSError(5, "Input/output error")
+        self.goes_on.release()
+        self.assertFalse(await self.put(1))
+        with self.assertRaisesRegex(OSError, "is not synced"):
+            await asyncio.wait_for(node.failed, 60)
+
+    async def test_what_is_staged_while_others_are_synced_shares_a_commit_and_a_sync(self) -> None:
+        first = self.put(1)
+        await self.begun(1)
+        ran = list[str]()
+        self.store.base.set_trace_callback(ran.append)
+        later = list["asyncio.Future[bool]"]()
+        for number in range(2, 6):
+            later.append(self.put(number))
+            await asyncio.sleep(0.01)  # longer than what waits is left
+        self.assertNotIn("COMMIT", ran)
+        self.goes_on.release()
+        await self.begun(2)
+        self.goes_on.release()
+        self.assertEqual(await asyncio.wait_for(asyncio.gather(first, *later), 60), [True] * 5)
+        self.assertEqual((ran.count("COMMIT"), len(self.syncs)), (1, 2))
+
+    async def test_what_is_committed_is_synced_though_what_is_staged_behind_it_is_lost(self) -> None:
+        first = self.put(1)
+        await self.begun(1)
+        second = self.put(2)
+        self.assertTrue(self.store.flush())
+        third, base = self.put(3), self.store.base
+
+        def execute(words: str, *values: Any) -> sqlite3.Cursor:
+            if words == "COMMIT":
+                raise sqlite3.OperationalError("database or disk is full")
+            return base.execute(words, *values)
+
+        refusing = types.SimpleNamespace(execute=execute, in_transaction=True)
+        with mock.patch.object(self.store, "base", refusing), contextlib.redirect_stderr(io.StringIO()):
+            self.goes_on.release()
+            self.assertEqual((await first, await third), (True, False))
+        self.goes_on.release()
+        self.assertTrue(await asyncio.wait_for(second, 60))
+        self.assertEqual(len(self.syncs), 2)
+
+    async def test_who_waits_as_the_store_is_closed_is_told(self) -> None:
+        store = Store(self.folder / "b.db", fail=self.told.append)
+        store.begin(0, 0)
+        first = store.written()
+        assert first
+        await self.begun(1)
+        store.begin(0, 1)
+        second = asyncio.create_task(store.durable())
+        await asyncio.sleep(0)
+        self.goes_on.release()
+        store.close()
+        self.assertEqual(await asyncio.wait_for(asyncio.gather(first, second), 60), [False, False])
+        again = Store(self.folder / "b.db")
+        self.assertEqual((again.holding(0, 0), again.holding(0, 1)), (1, 2))
+        again.close()
+
+
+if __name__ == "__main__":
+    unittest.main()
