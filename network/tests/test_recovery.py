@@ -59,6 +59,7 @@ class Left(NodeCase):
         node = self.node({0: {0: self.shard}, 1: {0: self.side(1)}})
         await recovery.settle(node, 0, names)
         self.assertEqual([it.asked for it in self.seats], [[]] * 4)
+        self.enterContext(mock.patch.object(self.shard, "check"))  # by which it would be right after all
         for part in (METADATA, PRIMARY):  # what went wrong it takes
             self.store.mark(self.shard.holding, held, part, True)
             await recovery.settle(node, 0, [*names, held])

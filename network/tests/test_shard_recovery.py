@@ -56,6 +56,7 @@ class Recovery(NodeCase):
         self.seats[1].fails = False
         self.assertEqual(await recovery.settle(self.node({0: {0: self.shard}}), 0, [name]), 0)
         self.store.mark(self.shard.holding, name, SECONDARY, True)
+        self.enterContext(mock.patch.object(self.shard, "check"))  # by which it would be right after all
         self.seats[1].fails = True
         self.assertEqual(await recovery.settle(self.node({0: {0: self.shard}}), 0, [name]), 0)
 
