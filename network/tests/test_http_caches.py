@@ -9,7 +9,7 @@ from guard_case import GuardCase
 from harness import HERE
 from walrus.network.manifest import Place, label_of
 
-SITES = "sites.example"
+SITES, PACKAGE = "sites.example", HERE.parents[1] / "clients" / "python" / "walrus" / "network"
 
 
 class SitesCase(GuardCase):
@@ -60,7 +60,8 @@ class Nginx(test_http_proxy.BehindNginx, SitesCase):
 
     async def test_each_host_has_its_own(self) -> None:
         blob = self.file(b"the blob").hex()
-        files: list[Files] = [{it: b"%d of " % number + it.encode() for it in self.paths(blob)} for number in range(2)]
+        paths = ["index.html", "page.js", f"v1/blobs/{blob}"]  # of which the gateway has some, too
+        files: list[Files] = [{it: f"{it} of {folder}".encode() for it in paths} for folder in range(2)]
         asked = [(f"{label_of(self.folder_of(it))}.{SITES}", f"/{path}", it[path]) for it in files for path in it]
         for cached in ("MISS", "HIT"):
             for host, path, data in asked:
@@ -68,11 +69,7 @@ class Nginx(test_http_proxy.BehindNginx, SitesCase):
                 self.assertEqual((status, body, headers["x-cache"]), (200, data, cached), (host, path))
             status, headers, body = await self.ask("GET", f"/v1/blobs/{blob}")
             self.assertEqual((status, body, headers["x-cache"]), (200, b"the blob", cached))
-        self.assertNotIn(b" of ", (await self.ask("GET", "/page.js"))[2][:99])
-
-    def paths(self, blob: str) -> list[str]:
-        """Those of folders, which are paths of the gateway's own, too."""
-        return ["index.html", "page.js", f"v1/blobs/{blob}"]
+        self.assertEqual((await self.ask("GET", "/page.js"))[2], (PACKAGE / "page" / "page.js").read_bytes())
 
 
 class Keyed(Nginx):

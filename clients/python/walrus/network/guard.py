@@ -173,8 +173,8 @@ class Guard:
         return web.Response(status=204, headers={"Allow": methods})
 
     async def keep(self, request: web.Request, response: web.StreamResponse) -> None:
-        """Lets caches that several people share keep nothing for which one of them had to show a token; and where
-        folders have hosts of their own, nothing that they would give to who asks another host."""
+        """Lets caches that several people share keep nothing for which one of them had to show a token, and if
+        folders have hosts of their own, give what they keep to nobody who asks another host."""
         told, known = response.headers.get(hdrs.CACHE_CONTROL, ""), self.tokens.all()
         if self.exposure.sites and "no-store" not in told:
             response.headers[hdrs.VARY] = ", ".join([*response.headers.getall(hdrs.VARY, []), hdrs.HOST])
