@@ -127,7 +127,7 @@ class Silent(unittest.IsolatedAsyncioTestCase):
         seats = [Other(self, it) for it in range(7)]
         made.peers = types.SimpleNamespace(seats=lambda owners, faults: seats)
         made.store = mock.Mock(losses=0, settled=mock.AsyncMock(return_value=set()), durable=mock.AsyncMock())
-        made.store.alone = lambda *_: contextlib.nullcontext()
+        made.store.alone, made.store.wrong = lambda *_: contextlib.nullcontext(), lambda *_: set()
         made.port, made.judges, made.repairs = types.SimpleNamespace(shape=SHAPE), Walrus(), Room(10**9)
         return made
 
