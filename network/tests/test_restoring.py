@@ -69,15 +69,25 @@ class Agreed(unittest.IsolatedAsyncioTestCase):
         self.assertEqual(service.agreed(), ["x"])
         made.state.close()
 
+    async def test_no_ledger_is_founded_where_the_snapshot_was_not_restored(self) -> None:
+        memory = Memory()
+        service = Restoring(Recorder(memory), mock.Mock())
+        self.addCleanup(service.recorder.state.close)
+        with self.assertRaisesRegex(Broken, "etcd has no ledger"):
+            await service.find_end(60, asyncio.Event())
+        self.assertEqual(await memory.head(), "")
+
     async def test_etcd_that_has_just_been_started_is_waited_for_but_not_for_ever(self) -> None:
         self.enterContext(mock.patch.object(restoring, "POLL", 0.01))
         said = self.enterContext(contextlib.redirect_stderr(io.StringIO()))
         memory, told = Memory(), asyncio.Event()
-        service = Restoring(Recorder(memory), mock.Mock())
+        founder, service = Recorder(memory), Restoring(Recorder(memory), mock.Mock())
+        self.addCleanup(founder.state.close)
+        await founder.catch_up()
         self.addCleanup(service.recorder.state.close)
-        memory.plan = {1: "before", 2: "before"}
+        memory.plan = {memory.calls + 1: "before", memory.calls + 2: "before"}
         await service.find_end(60, told)
-        self.assertIn("fail before call 1; it is asked again for up to 60 s\n", said.getvalue())
+        self.assertIn("fail before call 4; it is asked again for up to 60 s\n", said.getvalue())
         self.assertNotEqual(service.recorder.state.identity, "")
         memory.plan = dict.fromkeys(range(10_000), "before")
         with self.assertRaises(Failed):

@@ -16,6 +16,7 @@ from .recording import Service, etcd_of, wrong
 from .settings import RecorderSettings
 
 NOTHING = "the ledger is being restored: nothing is taken, and nothing told"
+EMPTY = "etcd has no ledger: restore the snapshot at all members of etcd first (network/OPERATING.md)"
 OTHER = "etcd has other entries up to place {} than the nodes have heard, as a recorder has run over it meanwhile: "
 OTHER += "stop all recorders, and restore the snapshot at all members of etcd once more (network/OPERATING.md)"
 STRANGE = "{} heard more than the snapshot has, but had no shards in it, so nothing of that is believed: "
@@ -92,10 +93,13 @@ class Restoring(Service):
         return found
 
     async def find_end(self, seconds: float, told: asyncio.Event) -> None:
-        """Reads up to the ledger's end. etcd is waited for that has just been started, unless an end is told."""
+        """Reads up to the ledger's end, which must have begun. etcd is waited for that has just been started, unless an
+        end is told."""
         last, said = time.monotonic() + seconds, ""
         while True:
             try:
+                if not await self.recorder.etcd.head():
+                    raise Broken(EMPTY)
                 return await self.recorder.catch_up()
             except Failed as fault:
                 if told.is_set() or time.monotonic() > last:
