@@ -51,6 +51,28 @@ class Defragmented(LedgerCase):
             await other.defragment()  # the first one may be at it still
             self.assertEqual(begun, [one, other, one])
 
+    async def test_above_its_quota_etcd_gives_no_turns_and_gives_back_what_it_has_free(self) -> None:
+        call, begun = Etcd.call, list[str]()
+
+        async def full(etcd: Etcd, path: str, *words: Any) -> dict[str, Any]:
+            begun.append(path)
+            if path.startswith("lease"):
+                raise Failed("etcd at .. does not answer: etcdserver: mvcc: database space exceeded")
+            return await call(etcd, path, *words)
+
+        with mock.patch.object(Etcd, "call", full):
+            await self.recorders[0].etcd.defragment()
+        self.assertEqual([it for it in begun if "kv" not in it], ["lease/grant", "maintenance/defragment"])
+
+    async def test_no_recorder_puts_a_piece_in_place_of_another_one_s(self) -> None:
+        """Two of different versions may write a checkpoint of one place: one of both is not what its mark says then."""
+        one, other = (it.etcd for it in self.recorders)
+        for etcd in (one, other):
+            await etcd.put_piece(5, 0, b"piece")
+        with self.assertRaisesRegex(Failed, "another checkpoint of this place"):
+            await other.put_piece(5, 0, b"another")
+        self.assertEqual(await one.piece(5, 0), b"piece")
+
 
 class Checkpoints(unittest.IsolatedAsyncioTestCase):
     """A recorder over an etcd in memory."""

@@ -91,6 +91,29 @@ class Pages(unittest.IsolatedAsyncioTestCase):
         with self.assertRaises(sqlite3.DatabaseError):
             store.parts(1, 0, NAMES[0], [METADATA])
 
+    async def test_a_torn_page_that_is_written_ends_the_node(self) -> None:
+        """Else it would take nothing, and wait for ever for what must be on the disk."""
+        self.enterContext(contextlib.redirect_stderr(io.StringIO()))
+        path = pathlib.Path(self.enterContext(tempfile.TemporaryDirectory(prefix="walrus-pages-"))) / "a.db"
+        store = Store(path)
+        store.begin(0, 0)
+        for name in NAMES:
+            store.put(1, 0, name, METADATA, bytes(9_000), None)
+        self.assertTrue(await store.durable())
+        store.expire(NAMES[:5])
+        store.close()
+        with open(path, "r+b") as file:
+            file.seek(32)
+            free = int.from_bytes(file.read(4), "big")  # the first page of those that are free
+            file.seek(4_096 * (free - 1))
+            file.write(b"\xa5" * 4_096)
+        told = list[Exception]()
+        store = Store(path, fail=told.append)
+        self.addCleanup(store.close)
+        with self.assertRaises(sqlite3.DatabaseError):
+            store.put(1, 0, NAMES[0], METADATA, bytes(9_000), None)
+        self.assertEqual([type(it) for it in told], [sqlite3.DatabaseError])
+
 
 class DiskCase(unittest.IsolatedAsyncioTestCase):
     """A disk with some blobs of one shard, and what goes over it."""

@@ -16,7 +16,10 @@ from unittest import mock
 import harness  # noqa: F401  # which says where walrus is
 from walrus.frames import METADATA, PRIMARY
 from walrus.network import notify
+from walrus.network.entries import Entry
 from walrus.network.files import Files
+from walrus.network.ledger import Ledger
+from walrus.network.shard import Shard
 from walrus.network.store import Store
 
 NAME = bytes(32)
@@ -52,6 +55,41 @@ class Threads(DiskCase):
                 self.assertEqual(await asyncio.gather(gone, kept), [True, True])
         self.assertEqual(await self.store.settled(1, 0), set())  # in a thread, which removes the file before
         self.assertFalse(self.store.files.path(file).exists())
+
+
+class Shared(DiskCase):
+    async def test_a_start_waits_until_nobody_else_reads_the_database(self) -> None:
+        """As what the log has is written into it before anything is said of that."""
+        self.assertTrue(await self.store.durable())
+        reader = sqlite3.connect(self.folder / "a.db", isolation_level=None, check_same_thread=False)
+        reader.execute("BEGIN")
+        reader.execute("SELECT * FROM held").fetchall()
+        self.store.close()
+        said = self.enterContext(contextlib.redirect_stderr(io.StringIO()))
+        threading.Timer(0.5, reader.close).start()
+        with mock.patch.object(Store, "seconds", 0.05):
+            self.store = Store(self.folder / "a.db")
+        self.assertIn("its end is waited for", said.getvalue())
+        self.assertEqual(self.store.sizes(1, 0, NAME), {METADATA: 8})
+
+
+class Twice(DiskCase):
+    async def test_only_what_was_judged_is_right_after_all(self) -> None:
+        """A shard of the epoch before does not see what its successor holds, of which it has the marks."""
+        entries = ["operator/begin/0/1/a,b,c,d", f"p/register/{NAME.hex()}/5", "operator/begin/1/1/a,b,c,e"]
+        ledger = Ledger()
+        for place, text in enumerate(entries, 1):
+            ledger.apply(Entry(place, text))
+        self.store.expire([NAME])
+        for part in (METADATA, PRIMARY):
+            self.store.put(1, 1, NAME, part, b"content", None)
+        self.assertEqual(self.store.begin(1, 0), 1)
+        judges = mock.Mock(ask=mock.AsyncMock(return_value=([], [])))
+        now, successor = (Shard(0, epoch, 1, ledger, self.store, judges, mock.Mock()) for epoch in (0, 1))
+        self.store.mark(1, NAME, PRIMARY, True)
+        for shard, wrong in ((now, {PRIMARY}), (successor, set[int]())):
+            await shard.check(NAME)
+            self.assertEqual(self.store.wrong(1, NAME), wrong)
 
 
 class Manager(unittest.IsolatedAsyncioTestCase):
@@ -95,15 +133,6 @@ class Start(DiskCase):
         alone = Store(pathlib.Path(shutil.copy(self.path, self.folder / "c.db")))  # as if the log were lost
         self.addCleanup(alone.close)
         self.assertEqual(alone.sizes(1, 0, NAME), {METADATA: 8})
-
-    async def test_a_start_fails_whose_log_does_not_come_into_the_database(self) -> None:
-        self.enterContext(mock.patch.object(Store, "seconds", 0.05))
-        with contextlib.closing(sqlite3.connect(self.path, isolation_level=None)) as reader:
-            reader.execute("BEGIN")
-            reader.execute("SELECT * FROM sides").fetchall()
-            with self.assertRaisesRegex(OSError, "another process reads .*b.db: end that one"):
-                Store(self.path)
-        Store(self.path).close()
 
 
 if __name__ == "__main__":

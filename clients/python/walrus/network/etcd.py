@@ -20,6 +20,7 @@ DEFRAGMENTING, TURN = "/walrus/defragmenting", 600  # whose turn it is, and for 
 PAGE, SILENCE, LONGEST_LINE = 16, 60.0, 2**20  # batches that are read at once; seconds; bytes
 WIDTHS = 64, 4_096, 262_144  # places among which the key of a batch is looked for: etcd would sort all there are
 COMPACTED, DROPPED = 5_000, 500  # revisions between two compactions; keys that are dropped at once
+NO_SPACE = "database space exceeded"  # as etcd says it
 QUOTA = re.compile(r"^etcd_server_quota_backend_bytes (\S+)$", re.MULTILINE)
 T = TypeVar("T")
 
@@ -181,8 +182,13 @@ class Etcd:
         await self.replace(MARK, old, {MARK: new})
 
     async def put_piece(self, place: int, number: int, piece: bytes) -> None:
-        value = base64.b64encode(piece).decode()
-        await self.call("kv/put", {"key": coded(key_of_piece(place, number)), "value": value})
+        """Puts a piece of a checkpoint, packed, where none is, as another recorder may put its own, of this place."""
+        key, value = coded(key_of_piece(place, number)), base64.b64encode(piece).decode()
+        words: dict[str, Any] = {"compare": [{"key": key, "target": "CREATE", "create_revision": "0"}]}
+        words["success"] = [{"request_put": {"key": key, "value": value}}]
+        answer = await self.call("kv/txn", words | {"failure": [{"request_range": {"key": key}}]})
+        if not answer.get("succeeded") and answer["responses"][0]["response_range"]["kvs"][0]["value"] != value:
+            raise Failed("another recorder writes another checkpoint of this place, such as one of another version")
 
     async def piece(self, place: int, number: int) -> bytes:
         """A piece of a checkpoint, packed."""
@@ -227,12 +233,19 @@ class Etcd:
 
     async def defragment(self) -> None:
         """Has that member give back what is not in use, unless it is another one's turn: it answers nobody else
-        meanwhile. If it does not say in time that it has done so, it may still be at it, and keeps its turn."""
-        lease = str((await self.call("lease/grant", {"TTL": str(TURN)}))["ID"])
-        holder, _ = await self.replace(DEFRAGMENTING, "", {DEFRAGMENTING: lease}, lease=lease)
+        meanwhile. If it does not say in time that it has done so, it may still be at it, and keeps its turn. Above its
+        quota etcd gives no turns, and nobody else waits for it."""
+        try:
+            lease = str((await self.call("lease/grant", {"TTL": str(TURN)}))["ID"])
+            holder, _ = await self.replace(DEFRAGMENTING, "", {DEFRAGMENTING: lease}, lease=lease)
+        except Failed as fault:
+            if NO_SPACE not in str(fault):
+                raise
+            lease = holder = ""
         if holder == lease:
             await self.call("maintenance/defragment", {}, 60)
-        await self.call("lease/revoke", {"ID": lease})
+        if lease:
+            await self.call("lease/revoke", {"ID": lease})
 
     async def watch(self, hear: Callable[[str], None]) -> None:
         """Tells what stands at the head soon after it is another one: a hint, as what is missed is asked for anyway."""

@@ -72,7 +72,7 @@ class Keeper:
         """Whether etcd has so much that no node is waited for any longer: above its quota nothing could be appended,
         and no checkpoint marked as dropped."""
         _, used = await self.etcd.sizes()
-        return used > FULL * await self.etcd.quota()
+        return 0 < FULL * await self.etcd.quota() < used  # below 0 it is none
 
     async def write(self, before: Optional[Mark]) -> None:
         """Writes a checkpoint of what the ledger is now; the mark last, so that nobody finds half of it, and only where

@@ -262,9 +262,10 @@ class Shard:
                 return 0, not self.store.wrong(self.holding, identifier)
             judged = await self.judged(identifier, client.write_frame(client.Read(identifier)), ALL, True)
             known = self.store.wrong(self.holding, identifier)
+            seen = {it.part for it in self.store.parts(self.holding, self.epoch, identifier, ALL, True)}
             if new := [part for part in judged.wrong if part not in known]:
                 self.mark(identifier, new)
             if METADATA not in judged.wrong:
-                for part in known - {*judged.wrong}:
+                for part in known & seen - {*judged.wrong}:
                     self.store.mark(self.holding, identifier, part, False)
         return judged.size, not judged.wrong

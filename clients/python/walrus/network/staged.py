@@ -8,11 +8,13 @@ import os
 import pathlib
 import queue
 import sqlite3
+import sys
 import threading
 from typing import Any, Callable, Iterable, Optional, TypeVar
 
 from .database import Database
 from .files import Files
+from .notify import extending
 
 TORN = "the database {} is torn: move it away and start the node without it, and the others fill it "
 TORN += "(network/OPERATING.md)"
@@ -44,11 +46,7 @@ class Staged(Database):
         except BlockingIOError:
             words = "end that one first, or name another database"
             raise OSError(f"another process runs over {self.path}: {words}") from None
-        # What the log has may not be on the disk, and behind a sync that failed another one proves nothing: the system
-        # takes its pages for clean. So all of it is written anew, into the database, and synced there.
-        if self.base.execute("PRAGMA wal_checkpoint(TRUNCATE)").fetchone()[0]:
-            words = "end that one, so that SQLite can bring its log into the database"
-            raise OSError(errno.EBUSY, f"another process reads {self.path}: {words}")
+        self.bring_in()
         self.log = self.opened.enter_context(open(f"{self.path}-wal", "rb"))  # by which each fault is told once
         self.files.sync(self.path.parent)  # which has the log
         self.pool = concurrent.futures.ThreadPoolExecutor(THREADS, "disk")  # asyncio's own looks names up, perhaps long
@@ -64,6 +62,17 @@ class Staged(Database):
         self.base.execute("PRAGMA synchronous = NORMAL")
         self.base.text_factory = functools.partial(str, encoding="utf-8", errors="replace")
         self.files = Files(self.path.with_suffix(".parts"))
+
+    def bring_in(self) -> None:
+        """Brings SQLite's log into the database, once no other process reads that. What the log has may not be on the
+        disk, and behind a sync that failed another one proves nothing, as the system takes its pages for clean. So all
+        of it is written anew, and synced there."""
+        said = False
+        with extending():
+            while self.base.execute("PRAGMA wal_checkpoint(TRUNCATE)").fetchone()[0]:
+                if not said:
+                    print(f"another process reads {self.path}: its end is waited for", file=sys.stderr, flush=True)
+                said = True
 
     def stage(self, words: str, *values: object) -> sqlite3.Cursor:
         """Runs a statement in the transaction that is committed next."""
@@ -81,6 +90,8 @@ class Staged(Database):
     def lose(self, fault: Exception) -> None:
         """Rolls back what was staged, and tells at once who relied on it."""
         self.tell(fault)
+        if type(fault) is sqlite3.DatabaseError:  # pages are torn, which no later attempt mends
+            self.fail(fault)
         self.losses += 1
         if self.base.in_transaction:
             self.base.execute("ROLLBACK")
