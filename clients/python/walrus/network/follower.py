@@ -1,6 +1,7 @@
 """How posters and followers reach the ledger: entries that are posted to a recorder, and heard in their order."""
 import asyncio
 import base64
+import errno
 import json
 import random
 import ssl
@@ -127,7 +128,7 @@ class Recorders:
 
     async def mind(self, fault: BaseException, at: int, pause: float) -> float:
         """Turns to the next recorder where one failed, and pauses; for how long the next time."""
-        ended = isinstance(fault, aiohttp.ServerDisconnectedError)
+        ended = isinstance(fault, aiohttp.ServerDisconnectedError) or getattr(fault, "errno", 0) == errno.ECONNRESET
         self.said = "a recorder takes no such certificate, or ended" if ended else str(fault) or "it is too slow"
         if self.at == at:
             self.at = (at + 1) % len(self.known)
