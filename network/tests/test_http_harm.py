@@ -172,6 +172,7 @@ class AtNodes(unittest.IsolatedAsyncioTestCase):
 
         node.recorders.leave = leave
         node.ledger.voted.return_value, node.ledger.writing_epoch, node.sides = False, 3, {3: {0: shard}}
+        node.ledger.certified_before.return_value = 0
         made = intake.Intake(node)
         with mock.patch.object(intake.Whole, "read", return_value=came):
             for _ in range(5):  # while the ledger is away
