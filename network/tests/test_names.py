@@ -70,10 +70,10 @@ class Keys(FoundingCase):
         etc = self.folder / "root" / "etc" / "walrus"
         for host in ("alpha", "office"):
             shutil.copytree(self.folder / "hosts" / host, etc, dirs_exist_ok=True)
-        https = etc / "https.key"
-        https.touch(0o600)
+        for end in ("crt", "key"):
+            shutil.copy(etc / f"gate.{end}", etc / f"https.{end}")
         with open(etc / "gate.toml", "a") as settings:
-            settings.write(f'tls_key = "{https}"\n')
+            settings.write('tls_certificate = "https.crt"\ntls_key = "https.key"\n')
         for name, key in (("alpha", "alpha"), ("recorder", "recorder"), ("recorder", "etcd"), ("gate", "https")):
             path = etc / f"{key}.key"
             path.chmod(0o755)
