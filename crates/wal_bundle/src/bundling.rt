@@ -1,10 +1,12 @@
 //! Making a bundle.
 
-ghost use Rattle.std.specs.Prelude.{◌≡◌, ◌≢◌, ℕ, ◌*◌, ◌<◌, ◌≤◌, ◌%◌, ◌^◌, List, Result, length, IfOk};
+ghost use Rattle.std.specs.Prelude.{◌≡◌, ◌≢◌, ℕ, ◌*◌, ◌<◌, ◌≤◌, ◌%◌, ◌^◌, List, Result, length};
+ghost use Rattle.std.specs.Prelude.{IfOk};
 ghost use Rattle.wal_kernel.specs.Region.{region};
 ghost use Rattle.wal_shape.specs.Shape.{cell_count, most_bytes, symbol_size};
 ghost use Rattle.wal_matrix.specs.Matrix.{IsExtended, secondary_of};
-ghost use Rattle.wal_bundle.specs.Layout.{Bundles, IsBundleSize, bundle_text, column_bytes, columns_text, lengths_of, used_columns};
+ghost use Rattle.wal_bundle.specs.Layout.{Bundles, IsBundleSize, bundle_text, column_bytes};
+ghost use Rattle.wal_bundle.specs.Layout.{columns_text, lengths_of, used_columns};
 ghost use Rattle.wal_bundle.specs.declared.answer.BundleError.{BundleError};
 ghost use Rattle.wal_bundle.specs.declared.answer.BundleError.TheVariants.{Memory};
 

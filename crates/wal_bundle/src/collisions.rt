@@ -12,7 +12,9 @@ ghost use Rattle.wal_commit.specs.Held.{HoldsSliver};
 ghost use Rattle.wal_commit.specs.Identifier.{metadata_over};
 ghost use Rattle.wal_bundle.specs.Layout.{IsBundle};
 ghost use Rattle.wal_bundle.specs.Columns.{IsColumn, IsOwnColumn};
-ghost use Rattle.wal_bundle.specs.Contradictions.{AgreeBelow, AreContraryMembers, AreDigestedForBundle, AreDigestedForColumns, AreDigestedForMembers, ContradictsBundle};
+ghost use Rattle.wal_bundle.specs.Contradictions.{AgreeBelow, AreContraryMembers};
+ghost use Rattle.wal_bundle.specs.Contradictions.{AreDigestedForBundle, AreDigestedForColumns};
+ghost use Rattle.wal_bundle.specs.Contradictions.{AreDigestedForMembers, ContradictsBundle};
 
 use crate::answer::BundleError;
 use crate::bundling::bundle;

@@ -1,6 +1,7 @@
 //! The columns of a bundle that payloads show.
 
-ghost use Rattle.std.specs.Prelude.{◌≡◌, ℕ, ◌+◌, ◌*◌, ◌<◌, ◌≤◌, ◌^◌, List, length, IfOk, IfSome, IfNone};
+ghost use Rattle.std.specs.Prelude.{◌≡◌, ℕ, ◌+◌, ◌*◌, ◌<◌, ◌≤◌, ◌^◌, List, length, IfOk, IfSome};
+ghost use Rattle.std.specs.Prelude.{IfNone};
 ghost use Rattle.wal_shape.specs.declared.axis.Axis.TheVariants.{Secondary};
 ghost use Rattle.wal_shape.specs.Shape.{IsShape, symbol_size};
 ghost use Rattle.wal_shape.specs.MetaRef.{metadata_shown};

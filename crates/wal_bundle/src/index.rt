@@ -1,9 +1,11 @@
 //! The index of a bundle, as text.
 
-ghost use Rattle.std.specs.Prelude.{◌≡◌, ◌*◌, ◌+◌, ◌<◌, ◌≤◌, ◌++◌, ◌^◌, length, take, slice_index, IfOk, OnOk};
+ghost use Rattle.std.specs.Prelude.{◌≡◌, ◌*◌, ◌+◌, ◌<◌, ◌≤◌, ◌++◌, ◌^◌, length, take, slice_index};
+ghost use Rattle.std.specs.Prelude.{IfOk, OnOk};
 ghost use Rattle.std.specs.Int.{w16, w32};
 ghost use Rattle.wal_shape.specs.Spelling.{number_text};
-ghost use Rattle.wal_bundle.specs.Layout.{column_bytes, columns_for, first_column, index_bytes, index_text, used_columns};
+ghost use Rattle.wal_bundle.specs.Layout.{column_bytes, columns_for, first_column, index_bytes};
+ghost use Rattle.wal_bundle.specs.Layout.{index_text, used_columns};
 
 use crate::layout::{columns_for, index_columns};
 use std::alloc::{AllocError, Global};

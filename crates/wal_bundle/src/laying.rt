@@ -1,7 +1,9 @@
 //! The columns of a bundle, one after the other.
 
-ghost use Rattle.std.specs.Prelude.{◌≡◌, ◌*◌, ◌+◌, ◌<◌, ◌≤◌, ◌^◌, ◌++◌, ℕ, List, All, length, vec_len, IfOk, OnOk};
-ghost use Rattle.wal_bundle.specs.Layout.{columns_for, columns_text, index_text, lengths_of, used_columns, whole_columns};
+ghost use Rattle.std.specs.Prelude.{◌≡◌, ◌*◌, ◌+◌, ◌<◌, ◌≤◌, ◌^◌, ◌++◌, ℕ, List, All, length};
+ghost use Rattle.std.specs.Prelude.{vec_len, IfOk, OnOk};
+ghost use Rattle.wal_bundle.specs.Layout.{columns_for, columns_text, index_text, lengths_of};
+ghost use Rattle.wal_bundle.specs.Layout.{used_columns, whole_columns};
 
 use crate::layout::columns_for;
 use std::alloc::{AllocError, Global};

@@ -1,7 +1,9 @@
 //! Which columns members fill, and the least symbols for which there is room.
 
 ghost use Rattle.std.specs.Prelude.{◌≡◌, ℕ, ◌+◌, ◌*◌, ◌%◌, ◌^◌, ◌<◌, ◌≤◌, ◌↔◌, length, IsTrue};
-ghost use Rattle.wal_bundle.specs.Layout.{ColumnsFit, IsBundleSize, column_bytes, columns_for, first_column, index_columns, member_columns, used_columns};
+ghost use Rattle.wal_bundle.specs.Layout.{ColumnsFit, IsBundleSize, column_bytes, columns_for};
+ghost use Rattle.wal_bundle.specs.Layout.{first_column, index_columns, member_columns};
+ghost use Rattle.wal_bundle.specs.Layout.{used_columns};
 
 /// The columns of `size` bytes that so many bytes need.
 #[tactic(auto, unfolding(crate::specs::Layout::columns_for))]

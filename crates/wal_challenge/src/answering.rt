@@ -6,7 +6,8 @@ ghost use Rattle.wal_shape.specs.MetaRef.{metadata_shown};
 ghost use Rattle.wal_shape.specs.Metadata.{IsMetadata};
 ghost use Rattle.wal_shape.specs.Shape.{crossing, shard_count};
 ghost use Rattle.wal_commit.specs.Held.{HoldsOpening};
-ghost use Rattle.wal_challenge.specs.Answer.{AreAnswers, AreWordsOf, HoldsBoth, ShowsDrawn, among, draw_of};
+ghost use Rattle.wal_challenge.specs.Answer.{AreAnswers, AreWordsOf, HoldsBoth, ShowsDrawn, among};
+ghost use Rattle.wal_challenge.specs.Answer.{draw_of};
 
 use crate::beacon::draw;
 use crate::drawing::Draw;

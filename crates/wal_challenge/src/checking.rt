@@ -9,7 +9,8 @@ ghost use Rattle.wal_evidence.specs.Evidence.{CommitsMatrix};
 ghost use Rattle.wal_challenge.specs.declared.checking.AnswerVerdict.{AnswerVerdict};
 ghost use Rattle.wal_challenge.specs.declared.checking.AnswerVerdict.TheVariants as told;
 ghost use Rattle.wal_challenge.specs.Answer.{AreAnswers, HoldsBoth};
-ghost use Rattle.wal_challenge.specs.Verdict.{AnswersDraw, AreOwnOrFalse, AnswersComeTo, FirstAnswer, IsFirstWrong, claims_from};
+ghost use Rattle.wal_challenge.specs.Verdict.{AnswersDraw, AreOwnOrFalse, AnswersComeTo};
+ghost use Rattle.wal_challenge.specs.Verdict.{FirstAnswer, IsFirstWrong, claims_from};
 
 use crate::beacon::draw;
 use crate::drawing::Draw;

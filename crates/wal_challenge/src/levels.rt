@@ -1,6 +1,7 @@
 //! The levels of a hash tree, of which paths are copied.
 
-ghost use Rattle.std.specs.Prelude.{◌≡◌, ◌+◌, ◌*◌, ◌/◌, ◌%◌, ◌<◌, ◌≤◌, ◌∷◌, ◌++◌, [], IfOk, OnOk, length, take, drop};
+ghost use Rattle.std.specs.Prelude.{◌≡◌, ◌+◌, ◌*◌, ◌/◌, ◌%◌, ◌<◌, ◌≤◌, ◌∷◌, ◌++◌, [], IfOk, OnOk};
+ghost use Rattle.std.specs.Prelude.{length, take, drop};
 ghost use Rattle.wal_tree.specs.Path.{beside, path_over};
 ghost use Rattle.wal_tree.specs.Tree.{leaves, pair_up, pieces};
 ghost use Rattle.wal_challenge.specs.inside.Levels.{AreLevels, evened};

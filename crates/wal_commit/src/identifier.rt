@@ -1,8 +1,10 @@
 //! Metadata and identifiers.
 
-ghost use Rattle.std.specs.Prelude.{ℕ, ◌≡◌, ◌*◌, ◌<◌, ◌≤◌, ◌↔◌, ◌++◌, ◌+◌, List, length, IfOk, OnOk, IsTrue};
+ghost use Rattle.std.specs.Prelude.{ℕ, ◌≡◌, ◌*◌, ◌<◌, ◌≤◌, ◌↔◌, ◌++◌, ◌+◌, List, length, IfOk};
+ghost use Rattle.std.specs.Prelude.{OnOk, IsTrue};
 ghost use Rattle.wal_shape.specs.MetaRef.{metadata_shown};
-ghost use Rattle.wal_commit.specs.Identifier.{Commits, IsIdentifierOf, head_text, held_pairs, identifier_tag, metadata_over};
+ghost use Rattle.wal_commit.specs.Identifier.{Commits, IsIdentifierOf, head_text, held_pairs};
+ghost use Rattle.wal_commit.specs.Identifier.{identifier_tag, metadata_over};
 ghost use Rattle.wal_commit.specs.inside.Identifier.{pair_over};
 ghost use Rattle.wal_commit.specs.inside.Leaves.{AreLeafDigests};
 ghost use Rattle.wal_shape.specs.declared.axis.Axis.TheVariants.{Secondary};

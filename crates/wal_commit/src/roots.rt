@@ -1,7 +1,8 @@
 //! The roots of a blob's metadata in one pass over its extended matrix, of which only a few columns
 //! stand at once.
 
-ghost use Rattle.std.specs.Prelude.{◌≡◌, ℕ, ◌+◌, ◌*◌, ◌/◌, ◌%◌, ◌<◌, ◌≤◌, ◌++◌, List, length, IfOk, OnOk};
+ghost use Rattle.std.specs.Prelude.{◌≡◌, ℕ, ◌+◌, ◌*◌, ◌/◌, ◌%◌, ◌<◌, ◌≤◌, ◌++◌, List, length, IfOk};
+ghost use Rattle.std.specs.Prelude.{OnOk};
 ghost use Rattle.wal_shape.specs.Shape.{IsShape, shard_count, symbol_size};
 ghost use Rattle.wal_shape.specs.Spelling.{metadata_text};
 ghost use Rattle.wal_matrix.specs.Front.{IsFrontOf};

@@ -2,7 +2,8 @@
 
 ghost use Rattle.std.specs.Prelude.{◌≡◌, ◌↔◌, ◌≤◌, IsTrue};
 ghost use Rattle.std.specs.List.{AllByRecursion, list_all};
-ghost use Rattle.wal_event.specs.Event.{AreRepliesWithin, Fits, IsReply, IsEventWithin, event_fits, replies_within, reply_within, within};
+ghost use Rattle.wal_event.specs.Event.{AreRepliesWithin, Fits, IsReply, IsEventWithin, event_fits};
+ghost use Rattle.wal_event.specs.Event.{replies_within, reply_within, within};
 
 use crate::event::{Event, Replies, Reply};
 use wal_shape::{MOST_BYTES, is_ascending, is_committee};

@@ -5,7 +5,8 @@ ghost use Rattle.wal_shape.specs.Shape.{most_bytes};
 ghost use Rattle.wal_shape.specs.MetaRef.{metadata_shown};
 ghost use Rattle.wal_evidence.specs.declared.evidence.Verdict.{Verdict};
 ghost use Rattle.wal_evidence.specs.declared.evidence.Verdict.TheVariants as told;
-ghost use Rattle.wal_evidence.specs.Evidence.{AreHeld, CommitsMatrix, HasFalseSliver, IsHeldBy, IsVerdictOn, Judges, IsJudgedBy};
+ghost use Rattle.wal_evidence.specs.Evidence.{AreHeld, CommitsMatrix, HasFalseSliver, IsHeldBy};
+ghost use Rattle.wal_evidence.specs.Evidence.{IsVerdictOn, Judges, IsJudgedBy};
 
 use crate::evidence::{Basis, Evidence, Verdict};
 use std::alloc::{AllocError, Global};

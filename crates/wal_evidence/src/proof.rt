@@ -1,13 +1,15 @@
 //! Checking proofs of bad encoding.
 
-ghost use Rattle.std.specs.Prelude.{◌≡◌, ◌↔◌, ℕ, ◌*◌, ◌<◌, ◌≤◌, List, length, take, All, IsTrue, IfSome, IfNone, Some, slice_get};
+ghost use Rattle.std.specs.Prelude.{◌≡◌, ◌↔◌, ℕ, ◌*◌, ◌<◌, ◌≤◌, List, length, take, All, IsTrue};
+ghost use Rattle.std.specs.Prelude.{IfSome, IfNone, Some, slice_get};
 ghost use Rattle.wal_code.specs.Codeword.{Distinct};
 ghost use Rattle.wal_shape.specs.declared.opening.Opening.{Opening};
 ghost use Rattle.wal_shape.specs.Shape.{sliver_symbols, symbol_size};
 ghost use Rattle.wal_shape.specs.MetaRef.{metadata_shown};
 ghost use Rattle.wal_shape.specs.ProofRef.{proof_shown};
 ghost use Rattle.wal_commit.specs.Held.{HoldsOpening};
-ghost use Rattle.wal_evidence.specs.BadProof.{Checks, IsBadProof, IsFirstBad, crosses_of, symbols_of};
+ghost use Rattle.wal_evidence.specs.BadProof.{Checks, IsBadProof, IsFirstBad, crosses_of};
+ghost use Rattle.wal_evidence.specs.BadProof.{symbols_of};
 ghost use Rattle.wal_evidence.specs.declared.proof.ProofVerdict.{ProofVerdict};
 ghost use Rattle.wal_evidence.specs.declared.proof.ProofVerdict.TheVariants.{Inconsistent};
 

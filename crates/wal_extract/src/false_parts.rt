@@ -1,7 +1,8 @@
 //! A sliver or an opening that is not a matrix's own, though it is committed under one root with
 //! it.
 
-ghost use Rattle.std.specs.Prelude.{◌≡◌, ◌≢◌, ℕ, ◌+◌, ◌*◌, ◌<◌, ◌≤◌, IfOk, Some, length, slice_get, slice_index};
+ghost use Rattle.std.specs.Prelude.{◌≡◌, ◌≢◌, ℕ, ◌+◌, ◌*◌, ◌<◌, ◌≤◌, IfOk, Some, length, slice_get};
+ghost use Rattle.std.specs.Prelude.{slice_index};
 ghost use Rattle.wal_kernel.specs.Region.{region};
 ghost use Rattle.wal_shape.specs.declared.opening.Opening.{Opening};
 ghost use Rattle.wal_shape.specs.ProofRef.{proof_shown};
@@ -9,7 +10,8 @@ ghost use Rattle.wal_shape.specs.Shape.{IsShape, column_count};
 ghost use Rattle.wal_tree.specs.Collision.{IsCollision};
 ghost use Rattle.wal_matrix.specs.Matrix.{line_of, primary_of, shards, symbol_bytes};
 ghost use Rattle.wal_extract.specs.Contrary.{AreDigestedForJoined, AreDigestedForOpenings};
-ghost use Rattle.wal_extract.specs.inside.FalseParts.{HaveFalseOpening, HaveFalseSliver, OpeningsMeet, SliversMeet, own_symbol};
+ghost use Rattle.wal_extract.specs.inside.FalseParts.{HaveFalseOpening, HaveFalseSliver};
+ghost use Rattle.wal_extract.specs.inside.FalseParts.{OpeningsMeet, SliversMeet, own_symbol};
 
 use crate::codewords::slivers;
 use std::alloc::{AllocError, Global};

@@ -5,7 +5,8 @@ ghost use Rattle.wal_matrix.specs.Matrix.{IsCodedMatrix, row_of, shards, symbol_
 ghost use Rattle.wal_shape.specs.Shape.{IsShape};
 ghost use Rattle.wal_tree.specs.Collision.{IsCollision};
 ghost use Rattle.wal_commit.specs.Identifier.{metadata_over};
-ghost use Rattle.wal_extract.specs.Blobs.{AreDigestedForBlobs, AreDigestedForRows, HaveOneIdentifier};
+ghost use Rattle.wal_extract.specs.Blobs.{AreDigestedForBlobs, AreDigestedForRows};
+ghost use Rattle.wal_extract.specs.Blobs.{HaveOneIdentifier};
 
 use crate::identities::metadatas;
 use std::alloc::{AllocError, Global};

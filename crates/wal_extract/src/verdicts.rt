@@ -8,7 +8,9 @@ ghost use Rattle.wal_matrix.specs.Matrix.{symbol_bytes};
 ghost use Rattle.wal_evidence.specs.declared.evidence.Verdict.{Verdict};
 ghost use Rattle.wal_evidence.specs.declared.evidence.Verdict.TheVariants.{Bytes};
 ghost use Rattle.wal_evidence.specs.Evidence.{CommitsMatrix, IsHeldBy, IsJudgedBy};
-ghost use Rattle.wal_extract.specs.Contrary.{AreContrary, AreDigestedForBasis, AreDigestedForEvidence, AreDigestedForEvidences, ContradictsBlob};
+ghost use Rattle.wal_extract.specs.Contrary.{AreContrary, AreDigestedForBasis};
+ghost use Rattle.wal_extract.specs.Contrary.{AreDigestedForEvidence, AreDigestedForEvidences};
+ghost use Rattle.wal_extract.specs.Contrary.{ContradictsBlob};
 
 use crate::false_parts::{collide_held, collide_openings};
 use crate::identities::metadatas;

@@ -31,8 +31,8 @@ pub fn strip_width(room: usize, regions: usize, left: usize) -> usize
     widest.min(left)
 }
 
-/// Copies the strip's words of each of the first `known` regions, a run of each, and fills the other
-/// runs with zeros.
+/// Copies the strip's words of each of the first `known` regions, a run of each, and fills the
+/// other runs with zeros.
 pub(crate) fn gather(regions: &[u8], strip: Strip, known: usize, runs: &mut [u8])
     requires regions { known * (2 * strip.words) ≤ length regions.now }
     requires within { strip.start + strip.width ≤ strip.words }

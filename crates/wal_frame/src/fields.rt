@@ -4,7 +4,8 @@ ghost use Rattle.std.specs.Prelude.{◌≡◌, ◌<◌, length, IfOk};
 ghost use Rattle.wal_shape.specs.Opening.{IsBody, opening_shown};
 ghost use Rattle.wal_shape.specs.ProofReading.{axis_of};
 ghost use Rattle.wal_shape.specs.FieldReading.{Gives};
-ghost use Rattle.wal_frame.specs.Reading.{bytes_at, axis_at, target_at, faults_at, text_at, opening_at, fault_from};
+ghost use Rattle.wal_frame.specs.Reading.{bytes_at, axis_at, target_at, faults_at, text_at};
+ghost use Rattle.wal_frame.specs.Reading.{opening_at, fault_from};
 
 use crate::frame::FrameError;
 use wal_shape::{Axis, BlobId, BodyFault, OpeningRef, bytes_of, read_body, u8_at, u16_at};

@@ -7,7 +7,10 @@ ghost use Rattle.wal_shape.specs.Spelling.{body_text};
 ghost use Rattle.wal_frame.specs.Frame.{Frame, Metadata, IsFrame, frame_text};
 ghost use Rattle.wal_frame.specs.Shown.{frame_shown, IsLentKind};
 ghost use Rattle.wal_shape.specs.FieldReading.{Gives};
-ghost use Rattle.wal_frame.specs.Reading.{IsPlaceBelow, roots_at, version_at, metadata_at, metadata2_at, sliver_at, opened_at, bodies_at, proof_at, ended, name_at, symbol_at, answer_at, clash_at, register_at, entry_at, request_at, fields_at, read_of};
+ghost use Rattle.wal_frame.specs.Reading.{IsPlaceBelow, roots_at, version_at, metadata_at};
+ghost use Rattle.wal_frame.specs.Reading.{metadata2_at, sliver_at, opened_at, bodies_at, proof_at};
+ghost use Rattle.wal_frame.specs.Reading.{ended, name_at, symbol_at, answer_at, clash_at};
+ghost use Rattle.wal_frame.specs.Reading.{register_at, entry_at, request_at, fields_at, read_of};
 
 use crate::fields::{MOST_INDEX, Target, faults_of, id_of, opening_of, target_of, text_of};
 use crate::frame::{FrameError, FrameRef};
@@ -373,7 +376,7 @@ fn frame_of(bytes: &[u8]) -> Result<FrameRef<'_>, FrameError>
 ///
 /// | Kind | Frame | Fields behind the kind |
 /// |---|---|---|
-/// | `10` | metadata | `f` (two bytes), the length (eight), and a primary and a secondary root (32 each) for each shard |
+/// | `10` | metadata | `f` (two bytes), length (eight), a primary and a secondary root a shard |
 /// | `11` | sliver | identifier (32), axis (one), index (two), size (four), that many bytes |
 /// | `12` | opening | identifier, axis, index, an opening body |
 /// | `13` | proof | identifier, axis, index, the number of bodies (two), that many opening bodies |

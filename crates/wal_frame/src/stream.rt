@@ -1,9 +1,11 @@
 //! Streams of envelopes.
 
-ghost use Rattle.std.specs.Prelude.{◌≡◌, ℕ, ◌<◌, ◌^◌, List, ◌++◌, length, Ok, Err, IfOk, IfErr, OnOk, option_map};
+ghost use Rattle.std.specs.Prelude.{◌≡◌, ℕ, ◌<◌, ◌^◌, List, ◌++◌, length, Ok, Err, IfOk, IfErr};
+ghost use Rattle.std.specs.Prelude.{OnOk, option_map};
 ghost use Rattle.std.specs.List.{flat_map, AllByRecursion};
 ghost use Rattle.wal_frame.specs.Frame.{envelope};
-ghost use Rattle.wal_frame.specs.Stream.{IsPayload, IfMalformed, IsMalformed, IsStream, envelope_at, stream_of, behind, Splits};
+ghost use Rattle.wal_frame.specs.Stream.{IsPayload, IfMalformed, IsMalformed, IsStream};
+ghost use Rattle.wal_frame.specs.Stream.{envelope_at, stream_of, behind, Splits};
 
 use crate::number::u32_in;
 use std::alloc::{AllocError, AllocFailed, Global};

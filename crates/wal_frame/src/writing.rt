@@ -1,14 +1,17 @@
 //! Writing frames.
 
-ghost use Rattle.std.specs.Prelude.{◌≡◌, ℕ, ◌+◌, ◌-◌, ◌≤◌, List, [], ◌∷◌, ◌++◌, length, take, IfOk, Ok};
+ghost use Rattle.std.specs.Prelude.{◌≡◌, ℕ, ◌+◌, ◌-◌, ◌≤◌, List, [], ◌∷◌, ◌++◌, length, take, IfOk};
+ghost use Rattle.std.specs.Prelude.{Ok};
 ghost use Rattle.std.specs.Int.{w16, w32};
 ghost use Rattle.wal_shape.specs.Shape.{most_bytes};
 ghost use Rattle.wal_shape.specs.Metadata.{IsMetadata};
 ghost use Rattle.wal_shape.specs.Opening.{IsBody, opening_shown};
-ghost use Rattle.wal_shape.specs.Spelling.{number_text, axis_number, metadata_text, body_text, proof_text};
+ghost use Rattle.wal_shape.specs.Spelling.{number_text, axis_number, metadata_text, body_text};
+ghost use Rattle.wal_shape.specs.Spelling.{proof_text};
 ghost use Rattle.wal_shape.specs.MetaRef.{metadata_shown};
 ghost use Rattle.wal_shape.specs.ProofRef.{proof_shown};
-ghost use Rattle.wal_frame.specs.Frame.{Frame, IsFrame, target_text, sliver_front, sliver_frame, frame_text, envelope};
+ghost use Rattle.wal_frame.specs.Frame.{Frame, IsFrame, target_text, sliver_front, sliver_frame};
+ghost use Rattle.wal_frame.specs.Frame.{frame_text, envelope};
 ghost use Rattle.wal_frame.specs.Shown.{frame_shown, IsLentKind};
 ghost use Rattle.wal_frame.specs.Reading.{read_of};
 ghost use Rattle.wal_frame.specs.Stream.{stream_of, behind};

@@ -1,14 +1,17 @@
 //! A cache of checked blobs, and gets over it.
 
-ghost use Rattle.std.specs.Prelude.{◌≡◌, ◌↔◌, ◌≤◌, ◌++◌, ◌∷◌, ℕ, List, [], length, is_some, option_map, true, None, Ok, IfOk, IfSome, OnErr, IsTrue};
+ghost use Rattle.std.specs.Prelude.{◌≡◌, ◌↔◌, ◌≤◌, ◌++◌, ◌∷◌, ℕ, List, [], length, is_some};
+ghost use Rattle.std.specs.Prelude.{option_map, true, None, Ok, IfOk, IfSome, OnErr, IsTrue};
 ghost use Rattle.wal_shape.specs.Identifiers.{id_eq};
 ghost use Rattle.wal_tree.specs.Collision.{IsCollision};
 ghost use Rattle.wal_frame.specs.Stream.{IsStream};
 ghost use Rattle.wal_reader.specs.Outcome.{IsAnswer};
 ghost use Rattle.wal_gateway.specs.declared.answer.GetAnswer.{GetAnswer as AnswerOf};
-ghost use Rattle.wal_gateway.specs.Getting.{AnswersGet, AnswersAll, Cache, Get, asked, entered, kept_blob, range_of};
+ghost use Rattle.wal_gateway.specs.Getting.{AnswersGet, AnswersAll, Cache, Get, asked, entered};
+ghost use Rattle.wal_gateway.specs.Getting.{kept_blob, range_of};
 ghost use Rattle.wal_gateway.specs.Gotten.{AreOnlyAnswers, IsOnlyAnswer};
-ghost use Rattle.wal_gateway.specs.Kept.{AreDigestedForKept, ContradictsKept, IsChecked, IsFreshOrContrary, IsSoundCache};
+ghost use Rattle.wal_gateway.specs.Kept.{AreDigestedForKept, ContradictsKept, IsChecked};
+ghost use Rattle.wal_gateway.specs.Kept.{IsFreshOrContrary, IsSoundCache};
 ghost use Rattle.wal_gateway.specs.Ends.{EndsGet};
 
 use crate::answer::{Found, GetAnswer};

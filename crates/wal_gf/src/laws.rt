@@ -3,7 +3,8 @@
 
 ghost use Rattle.std.specs.Prelude.{bit_xor};
 ghost use Rattle.wal_gf.specs.Field.{times, inverse};
-ghost use Rattle.wal_gf.specs.Laws.{StaysInWords, Associates, Commutes, HasUnit, SumsCancel, Distributes, HasInverses, HasFewRoots, DividesWithRemainder};
+ghost use Rattle.wal_gf.specs.Laws.{StaysInWords, Associates, Commutes, HasUnit, SumsCancel};
+ghost use Rattle.wal_gf.specs.Laws.{Distributes, HasInverses, HasFewRoots, DividesWithRemainder};
 
 /// The words are a commutative group under the sum, and each is its own negative.
 pub fn sums()

@@ -1,6 +1,7 @@
 //! Polynomials over the field: their values, and the one polynomial through given values.
 
-ghost use Rattle.std.specs.Prelude.{◌≡◌, ◌≢◌, ℕ, ◌+◌, ◌≤◌, List, [], ◌∷◌, length, All, AllPairs, IfOk, bit_xor};
+ghost use Rattle.std.specs.Prelude.{◌≡◌, ◌≢◌, ℕ, ◌+◌, ◌≤◌, List, [], ◌∷◌, length, All, AllPairs};
+ghost use Rattle.std.specs.Prelude.{IfOk, bit_xor};
 ghost use Rattle.wal_gf.specs.Field.{IsWord, times};
 ghost use Rattle.wal_gf.specs.Polynomial.{evaluate};
 ghost use Rattle.wal_gf.specs.Interpolation.{words_of, HasValues, IsOnlyWithValues};

@@ -1,6 +1,7 @@
 //! What the journal asks of a disk.
 
-ghost use Rattle.std.specs.Prelude.{◌≡◌, ℕ, ◌+◌, ◌≤◌, Bool, true, List, [], ◌∷◌, length, take, drop, OnOk, OnErr};
+ghost use Rattle.std.specs.Prelude.{◌≡◌, ℕ, ◌+◌, ◌≤◌, Bool, true, List, [], ◌∷◌, length, take};
+ghost use Rattle.std.specs.Prelude.{drop, OnOk, OnErr};
 ghost use Rattle.wal_journal.specs.Disk.{Agrees, put_at, Elapses, Writes, Syncs};
 ghost use Rattle.wal_port.specs.Faults.{Rose};
 

@@ -1,6 +1,7 @@
 //! The end of a change: its record is written.
 
-ghost use Rattle.std.specs.Prelude.{◌≡◌, ◌+◌, ◌<◌, ◌≤◌, ◌^◌, ◌++◌, true, List, [], ◌∷◌, length, IfOk, IfErr};
+ghost use Rattle.std.specs.Prelude.{◌≡◌, ◌+◌, ◌<◌, ◌≤◌, ◌^◌, ◌++◌, true, List, [], ◌∷◌, length};
+ghost use Rattle.std.specs.Prelude.{IfOk, IfErr};
 ghost use Rattle.wal_store.specs.Calls.{Call};
 ghost use Rattle.wal_journal.specs.Record.{EitherWay};
 ghost use Rattle.wal_journal.specs.inside.Held.{IsReady, WithOne, FitsWithOne};

@@ -1,6 +1,7 @@
 //! A disk in memory that never fails and tells nothing of crashes.
 
-ghost use Rattle.std.specs.Prelude.{◌≡◌, ℕ, ◌+◌, ◌<◌, ◌≤◌, false, List, [], vec_len, length, take, drop};
+ghost use Rattle.std.specs.Prelude.{◌≡◌, ℕ, ◌+◌, ◌<◌, ◌≤◌, false, List, [], vec_len, length, take};
+ghost use Rattle.std.specs.Prelude.{drop};
 
 use crate::disk::Disk;
 use wal_port::Failed;

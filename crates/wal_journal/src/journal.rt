@@ -1,6 +1,7 @@
 //! The journal: a keep, and the disk on which each change stands before it is acknowledged.
 
-ghost use Rattle.std.specs.Prelude.{◌≡◌, ◌+◌, ◌-◌, ◌<◌, ◌≤◌, ◌↔◌, ◌++◌, true, List, [], ◌∷◌, length, None, IfOk};
+ghost use Rattle.std.specs.Prelude.{◌≡◌, ◌+◌, ◌-◌, ◌<◌, ◌≤◌, ◌↔◌, ◌++◌, true, List, [], ◌∷◌};
+ghost use Rattle.std.specs.Prelude.{length, None, IfOk};
 ghost use Rattle.wal_shape.specs.Shape.{most_bytes};
 ghost use Rattle.wal_store.specs.Contents.{part_at, free_of, needed_for};
 ghost use Rattle.wal_store.specs.Answer.{HasRoom};
@@ -90,7 +91,9 @@ impl From<KeepError> for Why {
 }
 
 impl<D: Disk, K: Keep> Journal<D, K> {
-    ghost use Rattle.wal_journal.specs.Journal.{disk_of, keep_of, tail_of, disk_after, FitsEitherWay, IsDiskFull, IsPutWhy, IsDropWhy, IsTried, EndsChange};
+    ghost use Rattle.wal_journal.specs.Journal.{disk_of, keep_of, tail_of, disk_after};
+    ghost use Rattle.wal_journal.specs.Journal.{FitsEitherWay, IsDiskFull, IsPutWhy, IsDropWhy};
+    ghost use Rattle.wal_journal.specs.Journal.{IsTried, EndsChange};
 
     /// Stores the bytes of a part, which are on the disk when it answers `Ok`.
     pub fn put(

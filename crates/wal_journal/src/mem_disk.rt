@@ -1,6 +1,7 @@
 //! A disk in memory that tells what a crash may have left, with calls that fail by plan.
 
-ghost use Rattle.std.specs.Prelude.{◌≡◌, ℕ, ◌+◌, ◌*◌, ◌<◌, ◌≤◌, ◌++◌, true, List, [], ◌∷◌, vec_len, vec_capacity, length};
+ghost use Rattle.std.specs.Prelude.{◌≡◌, ℕ, ◌+◌, ◌*◌, ◌<◌, ◌≤◌, ◌++◌, true, List, [], ◌∷◌, vec_len};
+ghost use Rattle.std.specs.Prelude.{vec_capacity, length};
 ghost use Rattle.wal_journal.specs.Disk.{put_at};
 
 use crate::disk::Disk;
@@ -101,7 +102,8 @@ pub struct MemDisk {
 
 impl MemDisk {
     ghost use Rattle.std.specs.Prelude.{IfOk};
-    ghost use Rattle.wal_journal.specs.MemDisk.{disk_bytes, disk_fails, disk_most, disk_calls, disk_faults, disk_pending, disk_clock, most_past};
+    ghost use Rattle.wal_journal.specs.MemDisk.{disk_bytes, disk_fails, disk_most, disk_calls};
+    ghost use Rattle.wal_journal.specs.MemDisk.{disk_faults, disk_pending, disk_clock, most_past};
 
     /// A disk with these bytes, of which none is pending. The calls whose numbers stand in `fails`,
     /// from 1 over `read`, `write_at` and `sync` together, fail, and so does each call past the
@@ -153,12 +155,15 @@ impl MemDisk {
 }
 
 impl Disk for MemDisk {
-    ghost use Rattle.std.specs.Prelude.{◌↔◌, ◌⊎◌, if◌then◌else◌, take, drop, is_ok, IsErr, OnOk, OnErr};
+    ghost use Rattle.std.specs.Prelude.{◌↔◌, ◌⊎◌, if◌then◌else◌, take, drop, is_ok, IsErr, OnOk};
+    ghost use Rattle.std.specs.Prelude.{OnErr};
     ghost use Rattle.wal_port.specs.Plan.{FailsAt};
     ghost use Rattle.wal_port.specs.Faults.{Rose, count_up};
     ghost use Rattle.std.proofs.Common.{inl};
     ghost use Rattle.wal_journal.specs.Disk.{Agrees, Elapses, Writes, Syncs};
-    ghost use Rattle.wal_journal.specs.MemDisk.{disk_bytes, disk_fails, disk_most, disk_calls, disk_faults, disk_pending, disk_clock, disk_since, since_earlier, since_now};
+    ghost use Rattle.wal_journal.specs.MemDisk.{disk_bytes, disk_fails, disk_most, disk_calls};
+    ghost use Rattle.wal_journal.specs.MemDisk.{disk_faults, disk_pending, disk_clock, disk_since};
+    ghost use Rattle.wal_journal.specs.MemDisk.{since_earlier, since_now};
 
     ghost now = { disk_bytes };
 

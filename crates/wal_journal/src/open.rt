@@ -2,7 +2,8 @@
 
 ghost use Rattle.std.specs.Prelude.{◌≡◌, ℕ, ◌≤◌, true, List, IfOk, IfErr};
 ghost use Rattle.wal_store.specs.Calls.{Call, no_contents};
-ghost use Rattle.wal_journal.specs.declared.open.OpenFault.TheVariants.{DiskFault, BadRecord, Full, Memory};
+ghost use Rattle.wal_journal.specs.declared.open.OpenFault.TheVariants.{DiskFault, BadRecord, Full};
+ghost use Rattle.wal_journal.specs.declared.open.OpenFault.TheVariants.{Memory};
 ghost use Rattle.wal_journal.specs.Record.{Accepts};
 ghost use Rattle.wal_journal.specs.Held.{IsJournal};
 ghost use Rattle.wal_journal.specs.Disk.{Agrees};

@@ -9,7 +9,8 @@ ghost use Rattle.wal_store.specs.Calls.{Call, Put};
 ghost use Rattle.wal_journal.specs.Record.{Accepts};
 ghost use Rattle.wal_journal.specs.Crash.{LeavesOnly, Holds, Keeps};
 ghost use Rattle.wal_journal.specs.Journal.{disk_of, keep_of, disk_after};
-ghost use Rattle.wal_journal.specs.Packing.{put_of, put_in, is_lawful, puts_of, AcceptsFront, Packs};
+ghost use Rattle.wal_journal.specs.Packing.{put_of, put_in, is_lawful, puts_of, AcceptsFront};
+ghost use Rattle.wal_journal.specs.Packing.{Packs};
 
 use crate::disk::Disk;
 use crate::journal::{ChangeRefusal, Journal};

@@ -1,6 +1,7 @@
 //! The records of a disk, in the order of reading.
 
-ghost use Rattle.std.specs.Prelude.{◌≡◌, ◌+◌, ◌<◌, ◌≤◌, true, [], length, take, drop, get_or, None, IsTrue, IsErrOf, IfErr, OnOk};
+ghost use Rattle.std.specs.Prelude.{◌≡◌, ◌+◌, ◌<◌, ◌≤◌, true, [], length, take, drop, get_or, None};
+ghost use Rattle.std.specs.Prelude.{IsTrue, IsErrOf, IfErr, OnOk};
 ghost use Rattle.wal_store.specs.Contents.{part_at};
 ghost use Rattle.wal_store.specs.Calls.{no_contents};
 ghost use Rattle.wal_journal.specs.Reading.{HasSynced, IsSynced, Opens};

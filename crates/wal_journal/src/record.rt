@@ -1,6 +1,7 @@
 //! Reading a record: its head, and its bytes.
 
-ghost use Rattle.std.specs.Prelude.{◌≡◌, ◌+◌, ◌<◌, ◌≤◌, true, length, take, drop, get_or, None, Some, IfOk, IfErr, IfSome, IsNone, IsErrOf, OnErr};
+ghost use Rattle.std.specs.Prelude.{◌≡◌, ◌+◌, ◌<◌, ◌≤◌, true, length, take, drop, get_or, None};
+ghost use Rattle.std.specs.Prelude.{Some, IfOk, IfErr, IfSome, IsNone, IsErrOf, OnErr};
 ghost use Rattle.wal_store.specs.Calls.{Call};
 ghost use Rattle.wal_journal.specs.Record.{part_byte, size_text, IsWholeRecord};
 ghost use Rattle.wal_journal.specs.inside.Reading.{head_text, HasHead, IsHead, IsReadFault, Still};

@@ -1,6 +1,7 @@
 //! A record on the disk: all of it but its gate, a sync, the gate alone, and a sync.
 
-ghost use Rattle.std.specs.Prelude.{◌≡◌, ℕ, ◌+◌, ◌<◌, ◌≤◌, ◌^◌, ◌⊎◌, true, List, [], ◌∷◌, length, OnOk, OnErr};
+ghost use Rattle.std.specs.Prelude.{◌≡◌, ℕ, ◌+◌, ◌<◌, ◌≤◌, ◌^◌, ◌⊎◌, true, List, [], ◌∷◌, length};
+ghost use Rattle.std.specs.Prelude.{OnOk, OnErr};
 ghost use Rattle.wal_journal.specs.Disk.{Agrees, put_at};
 ghost use Rattle.wal_journal.specs.Crash.{LeavesOnly};
 ghost use Rattle.wal_journal.specs.inside.Append.{BeforeGate};

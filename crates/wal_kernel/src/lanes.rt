@@ -1,8 +1,10 @@
 //! Vectors of 32 bytes.
 
-ghost use Rattle.std.specs.Prelude.{◌≡◌, ℕ, ◌+◌, ◌*◌, ◌^◌, ◌/◌, ◌%◌, ◌<◌, ◌≤◌, List, length, slice_index, bit_xor};
+ghost use Rattle.std.specs.Prelude.{◌≡◌, ℕ, ◌+◌, ◌*◌, ◌^◌, ◌/◌, ◌%◌, ◌<◌, ◌≤◌, List, length};
+ghost use Rattle.std.specs.Prelude.{slice_index, bit_xor};
 ghost use Rattle.wal_kernel.specs.inside.Region.{IsSumBelow};
-ghost use Rattle.wal_kernel.specs.inside.Lanes.{HasLanes, IsTable, high_of_sixteenfold, low_of_sixteenfold, nibble_sum, word_of_lane};
+ghost use Rattle.wal_kernel.specs.inside.Lanes.{HasLanes, IsTable, high_of_sixteenfold};
+ghost use Rattle.wal_kernel.specs.inside.Lanes.{low_of_sixteenfold, nibble_sum, word_of_lane};
 
 use std::simd::prelude::*;
 

@@ -1,6 +1,7 @@
 //! Sums word by word and byte by byte.
 
-ghost use Rattle.std.specs.Prelude.{◌≡◌, ℕ, ◌+◌, ◌*◌, ◌/◌, ◌%◌, ◌<◌, ◌≤◌, List, length, slice_index};
+ghost use Rattle.std.specs.Prelude.{◌≡◌, ℕ, ◌+◌, ◌*◌, ◌/◌, ◌%◌, ◌<◌, ◌≤◌, List, length};
+ghost use Rattle.std.specs.Prelude.{slice_index};
 ghost use Rattle.wal_kernel.specs.Region.{word_at, IsScaledSum};
 ghost use Rattle.wal_kernel.specs.inside.Region.{IsSumBelow};
 

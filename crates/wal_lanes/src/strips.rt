@@ -1,6 +1,7 @@
 //! The digests of pieces that are never whole in memory: a strip of bytes of each at a time.
 
-ghost use Rattle.std.specs.Prelude.{◌≡◌, ℕ, ◌+◌, ◌-◌, ◌*◌, ◌%◌, ◌^◌, ◌<◌, ◌≤◌, ◌∷◌, List, OnOk, Some, length, take, drop, slice_get, slice_index};
+ghost use Rattle.std.specs.Prelude.{◌≡◌, ℕ, ◌+◌, ◌-◌, ◌*◌, ◌%◌, ◌^◌, ◌<◌, ◌≤◌, ◌∷◌, List, OnOk};
+ghost use Rattle.std.specs.Prelude.{Some, length, take, drop, slice_get, slice_index};
 ghost use Rattle.sha2.specs.Sha256.{digest_bytes, final_hash, initial_hash_256, sha256};
 ghost use Rattle.wal_lanes.specs.Strips.{AreDigestsOf, IsStrip};
 ghost use Rattle.wal_lanes.specs.inside.Lanes.{lane};

@@ -1,8 +1,10 @@
 //! The digests of at most eight texts: their whole blocks, and the last ones with the padding (FIPS
 //! 180-4, section 5.1.1). Of each text a byte is given, and the piece that follows it.
 
-ghost use Rattle.std.specs.Prelude.{◌≡◌, ℕ, ◌+◌, ◌*◌, ◌/◌, ◌%◌, ◌^◌, ◌<◌, ◌≤◌, ◌∷◌, List, length, take, drop, replicate, slice_index};
-ghost use Rattle.sha2.specs.Sha256.{compress, digest_bytes, final_hash, hash_after, initial_hash_256, padded_message, sha256};
+ghost use Rattle.std.specs.Prelude.{◌≡◌, ℕ, ◌+◌, ◌*◌, ◌/◌, ◌%◌, ◌^◌, ◌<◌, ◌≤◌, ◌∷◌, List, length};
+ghost use Rattle.std.specs.Prelude.{take, drop, replicate, slice_index};
+ghost use Rattle.sha2.specs.Sha256.{compress, digest_bytes, final_hash, hash_after};
+ghost use Rattle.sha2.specs.Sha256.{initial_hash_256, padded_message, sha256};
 ghost use Rattle.wal_lanes.specs.inside.Lanes.{lane, last_blocks, put_at, tail_length};
 ghost use Rattle.wal_lanes.specs.Pieces.{text};
 

@@ -2,7 +2,8 @@
 
 ghost use Rattle.std.specs.Prelude.{◌≡◌, ◌+◌, ◌*◌, ◌<◌, ◌≤◌, length, slice_index};
 ghost use Rattle.std.specs.Int.{rotate_right, w32};
-ghost use Rattle.sha2.specs.Sha256.{add32, big_sigma0, big_sigma1, ch, maj, small_sigma0, small_sigma1, word_at};
+ghost use Rattle.sha2.specs.Sha256.{add32, big_sigma0, big_sigma1, ch, maj, small_sigma0};
+ghost use Rattle.sha2.specs.Sha256.{small_sigma1, word_at};
 ghost use Rattle.wal_lanes.specs.inside.Lanes.{HasLanes};
 
 use std::simd::prelude::*;

@@ -1,6 +1,7 @@
 //! Entries and the links between them, in room that was reserved for them.
 
-ghost use Rattle.std.specs.Prelude.{◌≡◌, ℕ, ◌+◌, ◌-◌, ◌<◌, ◌≤◌, List, [], ◌∷◌, ◌++◌, length, IfOk, ◌^◌, vec_len, vec_capacity};
+ghost use Rattle.std.specs.Prelude.{◌≡◌, ℕ, ◌+◌, ◌-◌, ◌<◌, ◌≤◌, List, [], ◌∷◌, ◌++◌, length, IfOk};
+ghost use Rattle.std.specs.Prelude.{◌^◌, vec_len, vec_capacity};
 ghost use Rattle.wal_ledger.specs.inside.Book.{BookState};
 
 use crate::entry::Entry;

@@ -2,7 +2,8 @@
 
 ghost use Rattle.std.specs.Prelude.{◌≡◌, ℕ, ◌+◌, ◌<◌, ◌≤◌, true, false};
 ghost use Rattle.wal_ledger.specs.Shards.{committee_size, quorum_size};
-ghost use Rattle.wal_ledger.specs.Ledger.{reading, writing, is_moving, owners_of, is_live, signers, ready_shards, ready_total, takes_in};
+ghost use Rattle.wal_ledger.specs.Ledger.{reading, writing, is_moving, owners_of, is_live, signers};
+ghost use Rattle.wal_ledger.specs.Ledger.{ready_shards, ready_total, takes_in};
 ghost use Rattle.wal_ledger.specs.Kept.{IsLawful, SameEpoch};
 ghost use Rattle.wal_ledger.specs.Answers.{claim_of, Registers, Claims, Acks, Attests, Readies};
 ghost use Rattle.wal_ledger.specs.declared.entry.Body.TheVariants.{Register, Ready, Begin, Finish};

@@ -1,8 +1,12 @@
 //! The ledger and its queries.
 
-ghost use Rattle.std.specs.Prelude.{◌≡◌, ℕ, ◌+◌, ◌^◌, ◌<◌, ◌≤◌, ◌↔◌, List, [], cond, IsTrue, IfOk, IfSome, IfNone, Contains, Some, None, true, length, slice_get};
+ghost use Rattle.std.specs.Prelude.{◌≡◌, ℕ, ◌+◌, ◌^◌, ◌<◌, ◌≤◌, ◌↔◌, List, [], cond, IsTrue, IfOk};
+ghost use Rattle.std.specs.Prelude.{IfSome, IfNone, Contains, Some, None, true, length, slice_get};
 ghost use Rattle.wal_ledger.specs.Shards.{committee_size, count_below, quorum_size};
-ghost use Rattle.wal_ledger.specs.Ledger.{LedgerState, acknowledgers, reading, writing, is_moving, owners_at, owners_of, is_live, until_of, own_entries, signer_count, signers, ready_shards, ready_total, live_ids, home_of, IsCertified, IsInvalid, MustHold};
+ghost use Rattle.wal_ledger.specs.Ledger.{LedgerState, acknowledgers, reading, writing, is_moving};
+ghost use Rattle.wal_ledger.specs.Ledger.{owners_at, owners_of, is_live, until_of, own_entries};
+ghost use Rattle.wal_ledger.specs.Ledger.{signer_count, signers, ready_shards, ready_total};
+ghost use Rattle.wal_ledger.specs.Ledger.{live_ids, home_of, IsCertified, IsInvalid, MustHold};
 ghost use Rattle.wal_ledger.specs.Kept.{IsLawful};
 ghost use Rattle.wal_ledger.specs.inside.Kept.{IsKept, log_of};
 ghost use Rattle.wal_ledger.specs.declared.entry.Kind.TheVariants.{Holds};

@@ -1,7 +1,9 @@
 //! Rows of what is kept of each blob, where they were put, and the order of the identifiers beside
 //! them.
 
-ghost use Rattle.std.specs.Prelude.{◌≡◌, ℕ, ◌+◌, ◌-◌, ◌^◌, ◌<◌, ◌≤◌, List, [], cond, filter, nat_lt, Some, length, slice_get, IfOk, vec_len, vec_capacity, Contains, ◌++◌, ◌∷◌};
+ghost use Rattle.std.specs.Prelude.{◌≡◌, ℕ, ◌+◌, ◌-◌, ◌^◌, ◌<◌, ◌≤◌, List, [], cond, filter};
+ghost use Rattle.std.specs.Prelude.{nat_lt, Some, length, slice_get, IfOk, vec_len, vec_capacity};
+ghost use Rattle.std.specs.Prelude.{Contains, ◌++◌, ◌∷◌};
 ghost use Rattle.std.specs.List.{insert};
 ghost use Rattle.std.specs.BTreeSet.{insert_key};
 ghost use Rattle.wal_shape.specs.Identifiers.{id_eq, id_cmp};
@@ -98,7 +100,8 @@ pub(crate) struct Table {
 }
 
 impl Model for Table {
-    ghost use Rattle.std.specs.Prelude.{◌≡◌, ℕ, ◌-◌, ◌^◌, ◌<◌, ◌≤◌, length, map, vec_len, vec_capacity};
+    ghost use Rattle.std.specs.Prelude.{◌≡◌, ℕ, ◌-◌, ◌^◌, ◌<◌, ◌≤◌, length, map, vec_len};
+    ghost use Rattle.std.specs.Prelude.{vec_capacity};
     ghost use Rattle.wal_ledger.specs.inside.Rows.{Rows, IsTable, ids_of, row_of};
 
     ghost Value = { Rows };

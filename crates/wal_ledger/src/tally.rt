@@ -1,11 +1,13 @@
 //! What nodes say of one blob in one way, counted by their shards.
 
-ghost use Rattle.std.specs.Prelude.{◌≡◌, ℕ, ◌+◌, ◌^◌, ◌<◌, ◌≤◌, ◌↔◌, List, [], ◌∷◌, ◌++◌, length, All, IsTrue, IfSome, IfNone, cond, nat_eq};
+ghost use Rattle.std.specs.Prelude.{◌≡◌, ℕ, ◌+◌, ◌^◌, ◌<◌, ◌≤◌, ◌↔◌, List, [], ◌∷◌, ◌++◌, length};
+ghost use Rattle.std.specs.Prelude.{All, IsTrue, IfSome, IfNone, cond, nat_eq};
 ghost use Rattle.wal_ledger.specs.Shards.{committee_size, quorum_size};
 ghost use Rattle.wal_ledger.specs.Ledger.{is_signer_among};
 ghost use Rattle.wal_ledger.specs.inside.Claims.{count_among, IsLeastQuorum};
 ghost use Rattle.wal_ledger.specs.Within.{IsWithin};
-ghost use Rattle.wal_ledger.specs.inside.Tally.{Chain, HasChain, IsTally, Tells, Grows, no_tally, link_in, quorum_after, tally_after};
+ghost use Rattle.wal_ledger.specs.inside.Tally.{Chain, HasChain, IsTally, Tells, Grows, no_tally};
+ghost use Rattle.wal_ledger.specs.inside.Tally.{link_in, quorum_after, tally_after};
 ghost use Rattle.wal_shape.specs.Owners.{has_neighbour};
 
 use crate::entry::{Entry, Kind};

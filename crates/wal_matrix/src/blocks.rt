@@ -1,7 +1,8 @@
 //! The extended matrix of a blob. That of short symbols is made by one extension for both
 //! directions, of turned blocks.
 
-ghost use Rattle.std.specs.Prelude.{◌≡◌, ℕ, ◌+◌, ◌-◌, ◌*◌, ◌%◌, ◌<◌, ◌≤◌, ◌^◌, length, IfOk, slice_index, vec_len};
+ghost use Rattle.std.specs.Prelude.{◌≡◌, ℕ, ◌+◌, ◌-◌, ◌*◌, ◌%◌, ◌<◌, ◌≤◌, ◌^◌, length, IfOk};
+ghost use Rattle.std.specs.Prelude.{slice_index, vec_len};
 ghost use Rattle.wal_shape.specs.Shape.{shard_count, row_count, column_count};
 ghost use Rattle.wal_matrix.specs.Matrix.{padded, IsMatrixOf, IsExtended};
 ghost use Rattle.wal_matrix.specs.inside.Turned.{IsTurnedExtension};

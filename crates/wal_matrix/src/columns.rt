@@ -1,6 +1,7 @@
 //! The source block that has given columns.
 
-ghost use Rattle.std.specs.Prelude.{◌≡◌, ℕ, ◌+◌, ◌*◌, ◌<◌, ◌≤◌, ◌^◌, ◌++◌, List, length, replicate, slice_index, vec_len, IfOk, OnOk};
+ghost use Rattle.std.specs.Prelude.{◌≡◌, ℕ, ◌+◌, ◌*◌, ◌<◌, ◌≤◌, ◌^◌, ◌++◌, List, length, replicate};
+ghost use Rattle.std.specs.Prelude.{slice_index, vec_len, IfOk, OnOk};
 ghost use Rattle.wal_kernel.specs.Region.{region};
 ghost use Rattle.wal_shape.specs.Shape.{row_count, column_count, symbol_size};
 ghost use Rattle.wal_matrix.specs.Matrix.{IsExtended, column_part, padded, secondary_of, symbol};

@@ -1,6 +1,7 @@
 //! The source block from any `f + 1` primary slivers.
 
-ghost use Rattle.std.specs.Prelude.{◌≡◌, ℕ, ◌*◌, ◌%◌, ◌<◌, ◌≤◌, ◌^◌, List, length, All, IfOk, slice_index, vec_len};
+ghost use Rattle.std.specs.Prelude.{◌≡◌, ℕ, ◌*◌, ◌%◌, ◌<◌, ◌≤◌, ◌^◌, List, length, All, IfOk};
+ghost use Rattle.std.specs.Prelude.{slice_index, vec_len};
 ghost use Rattle.wal_code.specs.Codeword.{Distinct, coefficient};
 ghost use Rattle.wal_kernel.specs.Region.{region};
 ghost use Rattle.wal_shape.specs.Shape.{shard_count, row_count, column_count, symbol_size};

@@ -2,7 +2,8 @@
 
 ghost use Rattle.std.specs.Prelude.{◌≡◌, ℕ, ◌*◌, ◌<◌, List, length, IfOk};
 ghost use Rattle.wal_shape.specs.Shape.{row_count, column_count};
-ghost use Rattle.wal_matrix.specs.Matrix.{IsExtended, row_of, primary_of, column_of, secondary_of, shards, symbol_bytes};
+ghost use Rattle.wal_matrix.specs.Matrix.{IsExtended, row_of, primary_of, column_of, secondary_of};
+ghost use Rattle.wal_matrix.specs.Matrix.{shards, symbol_bytes};
 
 use crate::blocks::extended_cells;
 use crate::transposition::{copy_column, region};

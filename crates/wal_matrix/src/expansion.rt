@@ -1,8 +1,10 @@
 //! The codeword of a sliver, in a buffer that is kept.
 
-ghost use Rattle.std.specs.Prelude.{◌≡◌, ℕ, ◌+◌, ◌-◌, ◌*◌, ◌%◌, ◌<◌, ◌≤◌, ◌++◌, List, length, take, replicate, IfOk, All, vec_capacity};
+ghost use Rattle.std.specs.Prelude.{◌≡◌, ℕ, ◌+◌, ◌-◌, ◌*◌, ◌%◌, ◌<◌, ◌≤◌, ◌++◌, List, length, take};
+ghost use Rattle.std.specs.Prelude.{replicate, IfOk, All, vec_capacity};
 ghost use Rattle.wal_code.specs.Codeword.{Distinct};
-ghost use Rattle.wal_shape.specs.Shape.{shard_count, row_count, column_count, sliver_symbols, symbol_size, most_bytes};
+ghost use Rattle.wal_shape.specs.Shape.{shard_count, row_count, column_count, sliver_symbols};
+ghost use Rattle.wal_shape.specs.Shape.{symbol_size, most_bytes};
 ghost use Rattle.wal_matrix.specs.Tools.{longest_symbol};
 ghost use Rattle.wal_matrix.specs.Word.{IsWordOf, BeginsCodeword, PassesCodeword};
 

@@ -1,7 +1,8 @@
 //! The columns of a blob's extended matrix, made a few at a time, so that not the whole matrix
 //! stands at once.
 
-ghost use Rattle.std.specs.Prelude.{◌≡◌, ℕ, ◌+◌, ◌-◌, ◌*◌, ◌/◌, ◌%◌, ◌<◌, ◌≤◌, ◌^◌, ◌++◌, List, length, take, drop, IfOk, OnOk, slice_index};
+ghost use Rattle.std.specs.Prelude.{◌≡◌, ℕ, ◌+◌, ◌-◌, ◌*◌, ◌/◌, ◌%◌, ◌<◌, ◌≤◌, ◌^◌, ◌++◌, List};
+ghost use Rattle.std.specs.Prelude.{length, take, drop, IfOk, OnOk, slice_index};
 ghost use Rattle.wal_kernel.specs.Region.{region};
 ghost use Rattle.wal_shape.specs.Shape.{shard_count, row_count, column_count, symbol_size};
 ghost use Rattle.wal_matrix.specs.Matrix.{IsExtended, symbol};

@@ -1,6 +1,7 @@
 //! A matrix of long symbols: the rows are laid into the matrix itself, and extended in place.
 
-ghost use Rattle.std.specs.Prelude.{◌≡◌, ℕ, ◌+◌, ◌-◌, ◌*◌, ◌%◌, ◌<◌, ◌≤◌, ◌^◌, ◌++◌, length, take, drop, IfOk, OnOk, slice_index, vec_len};
+ghost use Rattle.std.specs.Prelude.{◌≡◌, ℕ, ◌+◌, ◌-◌, ◌*◌, ◌%◌, ◌<◌, ◌≤◌, ◌^◌, ◌++◌, length, take};
+ghost use Rattle.std.specs.Prelude.{drop, IfOk, OnOk, slice_index, vec_len};
 ghost use Rattle.wal_code.specs.Codeword.{IsCodeword};
 ghost use Rattle.wal_kernel.specs.Region.{word_at, region};
 ghost use Rattle.wal_shape.specs.Shape.{shard_count, row_count, column_count, symbol_size};

@@ -1,6 +1,7 @@
 //! What the calls on slivers keep from one to the next.
 
-ghost use Rattle.std.specs.Prelude.{◌≡◌, ℕ, ◌*◌, ◌%◌, ◌<◌, ◌≤◌, List, [], length, take, IfOk, All, replicate, ⊤};
+ghost use Rattle.std.specs.Prelude.{◌≡◌, ℕ, ◌*◌, ◌%◌, ◌<◌, ◌≤◌, List, [], length, take, IfOk, All};
+ghost use Rattle.std.specs.Prelude.{replicate, ⊤};
 ghost use Rattle.std.specs.Borrow.{sem, follows_so};
 ghost use mathlib.Core.Option.{none};
 ghost use Rattle.wal_code.specs.Codeword.{Distinct};

@@ -2,9 +2,11 @@
 //! no later call takes memory.
 #![tactic(auto)]
 
-ghost use Rattle.std.specs.Prelude.{◌≡◌, ℕ, ◌+◌, ◌*◌, ◌≤◌, List, Some, length, replicate, slice_get, slice_set, IfOk, OnErr, IsTrue, count_by, All};
+ghost use Rattle.std.specs.Prelude.{◌≡◌, ℕ, ◌+◌, ◌*◌, ◌≤◌, List, Some, length, replicate};
+ghost use Rattle.std.specs.Prelude.{slice_get, slice_set, IfOk, OnErr, IsTrue, count_by, All};
 ghost use Rattle.wal_pool.specs.inside.FreeList.{page_of, next, chain, is_free_list, states};
-ghost use Rattle.wal_pool.specs.Pages.{PageState, Free, Taken, is_free, page_bytes, IsTakenPage, AreWhole, overwrite};
+ghost use Rattle.wal_pool.specs.Pages.{PageState, Free, Taken, is_free, page_bytes, IsTakenPage};
+ghost use Rattle.wal_pool.specs.Pages.{AreWhole, overwrite};
 
 use std::alloc::{AllocError, Global};
 use std::marker::Model;

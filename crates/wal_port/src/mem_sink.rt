@@ -23,7 +23,8 @@ pub struct MemSink {
 
 impl MemSink {
     ghost use Rattle.std.specs.Prelude.{[], IfOk};
-    ghost use Rattle.wal_port.specs.MemSink.{sink_written, sink_room, sink_piece, sink_fails, sink_calls, sink_faults};
+    ghost use Rattle.wal_port.specs.MemSink.{sink_written, sink_room, sink_piece, sink_fails};
+    ghost use Rattle.wal_port.specs.MemSink.{sink_calls, sink_faults};
 
     /// A sink that takes `room` bytes in all and at most `piece` of them at a call, and fails at
     /// the calls whose numbers stand in `fails` and at each call once it is full. The first call
@@ -69,12 +70,14 @@ impl MemSink {
 }
 
 impl Sink for MemSink {
-    ghost use Rattle.std.specs.Prelude.{◌+◌, ◌-◌, ◌↔◌, ◌⊎◌, if◌then◌else◌, min, length, is_ok, IsErr, IfOk, OnErr, Some};
+    ghost use Rattle.std.specs.Prelude.{◌+◌, ◌-◌, ◌↔◌, ◌⊎◌, if◌then◌else◌, min, length, is_ok};
+    ghost use Rattle.std.specs.Prelude.{IsErr, IfOk, OnErr, Some};
     ghost use Rattle.wal_port.specs.Plan.{FailsAt};
     ghost use Rattle.std.specs.Io.{WritesAtMost};
     ghost use Rattle.std.specs.Io.KnownBytes.{WriteAppends};
     ghost use Rattle.wal_port.specs.Faults.{Rose, count_up};
-    ghost use Rattle.wal_port.specs.MemSink.{sink_written, sink_room, sink_piece, sink_fails, sink_calls, sink_faults};
+    ghost use Rattle.wal_port.specs.MemSink.{sink_written, sink_room, sink_piece, sink_fails};
+    ghost use Rattle.wal_port.specs.MemSink.{sink_calls, sink_faults};
 
     ghost written = { λ s. Some (sink_written s) };
 

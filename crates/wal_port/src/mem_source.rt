@@ -21,7 +21,8 @@ pub struct MemSource {
 
 impl MemSource {
     ghost use Rattle.std.specs.Prelude.{[]};
-    ghost use Rattle.wal_port.specs.MemSource.{source_left, source_piece, source_fails, source_calls, source_faults};
+    ghost use Rattle.wal_port.specs.MemSource.{source_left, source_piece, source_fails};
+    ghost use Rattle.wal_port.specs.MemSource.{source_calls, source_faults};
 
     /// A source of `bytes` that gives at most `piece` of them at a call, and fails at the calls
     /// whose numbers stand in `fails`. The first call has the number 1.
@@ -52,12 +53,14 @@ impl MemSource {
 }
 
 impl Source for MemSource {
-    ghost use Rattle.std.specs.Prelude.{◌+◌, ◌↔◌, if◌then◌else◌, min, length, is_ok, IsErr, IfOk, OnErr, Some};
+    ghost use Rattle.std.specs.Prelude.{◌+◌, ◌↔◌, if◌then◌else◌, min, length, is_ok, IsErr, IfOk};
+    ghost use Rattle.std.specs.Prelude.{OnErr, Some};
     ghost use Rattle.wal_port.specs.Plan.{FailsAt};
     ghost use Rattle.std.specs.Io.{ReadsAtMost};
     ghost use Rattle.std.specs.Io.KnownBytes.{ReadConsumes};
     ghost use Rattle.wal_port.specs.Faults.{Rose, count_up};
-    ghost use Rattle.wal_port.specs.MemSource.{source_left, source_piece, source_fails, source_calls, source_faults};
+    ghost use Rattle.wal_port.specs.MemSource.{source_left, source_piece, source_fails};
+    ghost use Rattle.wal_port.specs.MemSource.{source_calls, source_faults};
 
     ghost left = { λ s. Some (source_left s) };
 

@@ -1,6 +1,7 @@
 //! Whole inputs and whole outputs.
 
-ghost use Rattle.std.specs.Prelude.{◌≡◌, ℕ, ◌+◌, ◌^◌, ◌<◌, ◌≤◌, ◌↔◌, List, length, take, unwrap_or, [], IfOk, IfSome, OnOk, OnErr, IsErrOf};
+ghost use Rattle.std.specs.Prelude.{◌≡◌, ℕ, ◌+◌, ◌^◌, ◌<◌, ◌≤◌, ◌↔◌, List, length, take, unwrap_or};
+ghost use Rattle.std.specs.Prelude.{[], IfOk, IfSome, OnOk, OnErr, IsErrOf};
 ghost use Rattle.std.specs.Io.KnownBytes.{Consumes, Appends, IsAtEnd};
 ghost use Rattle.wal_port.specs.Faults.{Rose};
 ghost use Rattle.wal_port.specs.declared.transfers.TakeError.TheVariants.{ReadFault, Memory};

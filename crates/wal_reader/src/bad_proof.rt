@@ -4,7 +4,8 @@ ghost use Rattle.std.specs.Prelude.{◌≡◌, IfSome, IfNone};
 ghost use Rattle.wal_shape.specs.EncodingProof.{EncodingProof, IsProof};
 ghost use Rattle.wal_shape.specs.MetaRef.{metadata_shown};
 ghost use Rattle.wal_shape.specs.ProofRef.{proof_shown};
-ghost use Rattle.wal_reader.specs.Carried.{CarriesBadProof, IsFirstBadProof, IsFirstProof, NoBadProof, NoProof};
+ghost use Rattle.wal_reader.specs.Carried.{CarriesBadProof, IsFirstBadProof, IsFirstProof};
+ghost use Rattle.wal_reader.specs.Carried.{NoBadProof, NoProof};
 
 use crate::carried::proof_of;
 use wal_evidence::is_bad_proof;

@@ -4,7 +4,8 @@ ghost use Rattle.std.specs.Prelude.{◌≡◌, ◌≢◌, IfSome, IfNone};
 ghost use Rattle.wal_shape.specs.Metadata.{BlobMetadata};
 ghost use Rattle.wal_shape.specs.MetaRef.{metadata_shown};
 ghost use Rattle.wal_reader.specs.Found.{AreFirst, Finds};
-ghost use Rattle.wal_reader.specs.Outcome.{CarriesMetadata, HasMetadata, IsFirstMetadata, IsFirstOther};
+ghost use Rattle.wal_reader.specs.Outcome.{CarriesMetadata, HasMetadata, IsFirstMetadata};
+ghost use Rattle.wal_reader.specs.Outcome.{IsFirstOther};
 
 use crate::carried::metadata_of;
 use wal_commit::metadata_holds;

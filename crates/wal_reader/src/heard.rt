@@ -1,6 +1,7 @@
 //! What was heard of a blob's payloads, which come one by one.
 
-ghost use Rattle.std.specs.Prelude.{◌≡◌, ◌↔◌, ◌≤◌, ◌<◌, ◌^◌, ◌++◌, ◌∷◌, ℕ, List, [], length, All, IsTrue, IsOk, IfOk, OnOk};
+ghost use Rattle.std.specs.Prelude.{◌≡◌, ◌↔◌, ◌≤◌, ◌<◌, ◌^◌, ◌++◌, ◌∷◌, ℕ, List, [], length, All};
+ghost use Rattle.std.specs.Prelude.{IsTrue, IsOk, IfOk, OnOk};
 ghost use Rattle.wal_reader.specs.Heard.{HasHeard, IsSettledState};
 ghost use Rattle.wal_reader.specs.Outcome.{IsAnswer};
 ghost use Rattle.wal_reader.specs.Settled.{IsSettled};

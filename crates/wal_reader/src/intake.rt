@@ -1,6 +1,7 @@
 //! Taking a stream in pieces.
 
-ghost use Rattle.std.specs.Prelude.{◌≡◌, ◌+◌, ◌<◌, ◌≤◌, ◌↔◌, ℕ, List, [], ◌++◌, length, slice_index, true, false, IsOk, IfOk, OnOk, Err, IfErr, IsTrue};
+ghost use Rattle.std.specs.Prelude.{◌≡◌, ◌+◌, ◌<◌, ◌≤◌, ◌↔◌, ℕ, List, [], ◌++◌, length};
+ghost use Rattle.std.specs.Prelude.{slice_index, true, false, IsOk, IfOk, OnOk, Err, IfErr, IsTrue};
 ghost use Rattle.wal_frame.specs.Frame.{envelope};
 ghost use Rattle.wal_frame.specs.Stream as stream;
 ghost use Rattle.wal_reader.specs.Heard.{HasHeard, IsSettledState};
@@ -10,7 +11,8 @@ ghost use Rattle.wal_reader.specs.Standing.{FinishesStream};
 ghost use Rattle.wal_reader.specs.declared.errors.FinishError.TheVariants as finish;
 ghost use Rattle.wal_reader.specs.declared.errors.FeedError.TheVariants.{TooLong};
 ghost use Rattle.wal_reader.specs.Intake.{IsCut, StandsAt};
-ghost use Rattle.wal_reader.specs.inside.Intake.{CannotMatter, HasRoom, Hears, IsLacking, IsSound, IsUnfinished, Moves, Refuses, Takes, shown};
+ghost use Rattle.wal_reader.specs.inside.Intake.{CannotMatter, HasRoom, Hears, IsLacking, IsSound};
+ghost use Rattle.wal_reader.specs.inside.Intake.{IsUnfinished, Moves, Refuses, Takes, shown};
 
 use crate::errors::{FeedError, FinishError};
 use crate::heard::Heard;

@@ -3,7 +3,8 @@
 ghost use Rattle.std.specs.Prelude.{◌≡◌, ◌↔◌, ◌++◌, ◌∷◌, ℕ, List, [], IsTrue, IfOk, IsOkAnd};
 ghost use Rattle.wal_shape.specs.Metadata.{BlobMetadata};
 ghost use Rattle.wal_commit.specs.Identifier.{Commits};
-ghost use Rattle.wal_reader.specs.Heard.{CarriesNoPart, HasKept, HasKnown, IsEnough, IsSettledKept, Sifts};
+ghost use Rattle.wal_reader.specs.Heard.{CarriesNoPart, HasKept, HasKnown, IsEnough, IsSettledKept};
+ghost use Rattle.wal_reader.specs.Heard.{Sifts};
 ghost use Rattle.wal_reader.specs.Outcome.{HasMetadata};
 
 use crate::carried::{proof_of, sliver_of};

@@ -5,7 +5,8 @@ ghost use Rattle.std.specs.List.{flat_map};
 ghost use Rattle.wal_shape.specs.declared.axis.Axis.{Axis};
 ghost use Rattle.wal_shape.specs.Opening.{opening_shown};
 ghost use Rattle.wal_frame.specs.Reading.{read_of};
-ghost use Rattle.wal_reader.specs.Carried.{claim_for, claims_in, opening_at, opening_for, openings_in};
+ghost use Rattle.wal_reader.specs.Carried.{claim_for, claims_in, opening_at, opening_for};
+ghost use Rattle.wal_reader.specs.Carried.{openings_in};
 
 use crate::carried::{claim_of, opening_of};
 use std::alloc::{AllocError, Global};

@@ -3,7 +3,8 @@
 ghost use Rattle.std.specs.Prelude.{◌≡◌, ◌↔◌, ◌++◌, ℕ, List, [], Some, Err, IsTrue, IfOk};
 ghost use Rattle.wal_reader.specs.Intake.{IsCut};
 ghost use Rattle.wal_reader.specs.Settled.{IsSettled};
-ghost use Rattle.wal_reader.specs.Standing.{Feeds, FinishesStream, IsSettledReader, StandsFor, fault_of, finish_error};
+ghost use Rattle.wal_reader.specs.Standing.{Feeds, FinishesStream, IsSettledReader, StandsFor};
+ghost use Rattle.wal_reader.specs.Standing.{fault_of, finish_error};
 ghost use Rattle.wal_reader.specs.declared.errors.FeedError.{FeedError};
 ghost use Rattle.wal_reader.specs.declared.errors.FeedError.TheVariants as feed;
 ghost use Rattle.wal_reader.specs.declared.errors.FinishError.TheVariants as finish;

@@ -7,7 +7,8 @@ ghost use Rattle.wal_shape.specs.Metadata.{BlobMetadata};
 ghost use Rattle.wal_shape.specs.MetaRef.{metadata_shown};
 ghost use Rattle.wal_shape.specs.ProofRef.{proof_shown};
 ghost use Rattle.wal_evidence.specs.Evidence.{IsHeldBy};
-ghost use Rattle.wal_reader.specs.Outcome.{Collects, HasEnough, HasEvidence, HoldsFew, IsAnswer, IsVerdict, IsMetadataIn, IsOutcome, SameOutcome};
+ghost use Rattle.wal_reader.specs.Outcome.{Collects, HasEnough, HasEvidence, HoldsFew, IsAnswer};
+ghost use Rattle.wal_reader.specs.Outcome.{IsVerdict, IsMetadataIn, IsOutcome, SameOutcome};
 ghost use Rattle.wal_reader.specs.inside.Outcome.{IsAnswerOf};
 ghost use Rattle.wal_reader.specs.declared.outcome.Outcome.{Outcome};
 

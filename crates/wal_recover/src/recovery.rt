@@ -7,7 +7,8 @@ ghost use Rattle.wal_evidence.specs.BadProof.{crosses_of};
 ghost use Rattle.wal_evidence.specs.Evidence.{CommitsMatrix};
 ghost use Rattle.wal_evidence.specs.inside.FirstOfEach.{AreTaken};
 ghost use Rattle.wal_commit.specs.Held.{HoldsOpening};
-ghost use Rattle.wal_recover.specs.Recovery.{AreCrosses, TakenComeTo, HasCommittedSliver, IsCount, IsOwnOrFalse, OpeningsComeTo};
+ghost use Rattle.wal_recover.specs.Recovery.{AreCrosses, TakenComeTo, HasCommittedSliver, IsCount};
+ghost use Rattle.wal_recover.specs.Recovery.{IsOwnOrFalse, OpeningsComeTo};
 ghost use Rattle.wal_recover.specs.declared.outcome.Recovered.{Recovered};
 
 use crate::outcome::{Recovered, Recovery};

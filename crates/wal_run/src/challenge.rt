@@ -1,6 +1,7 @@
 //! The command that answers a storage challenge from recorded slivers.
 
-ghost use Rattle.std.specs.Prelude.{◌≡◌, ◌+◌, ◌<◌, ◌≤◌, ℕ, List, IfErr, IfNone, IfOk, IfSome, length};
+ghost use Rattle.std.specs.Prelude.{◌≡◌, ◌+◌, ◌<◌, ◌≤◌, ℕ, List, IfErr, IfNone, IfOk, IfSome};
+ghost use Rattle.std.specs.Prelude.{length};
 ghost use Rattle.wal_port.specs.Faults.{Rose};
 ghost use Rattle.wal_shape.specs.MetaRef.{metadata_shown};
 ghost use Rattle.wal_shape.specs.Shape.{shard_count, symbol_size};

@@ -1,7 +1,8 @@
 //! The envelopes in which a blob's metadata and slivers are written: each is made in one buffer, or
 //! only its front, where the bytes of a sliver are written from where they lie.
 
-ghost use Rattle.std.specs.Prelude.{◌≡◌, ◌≤◌, ◌<◌, ◌+◌, ◌*◌, ◌∷◌, ◌++◌, List, ℕ, length, min, IfOk, OnOk, OnErr};
+ghost use Rattle.std.specs.Prelude.{◌≡◌, ◌≤◌, ◌<◌, ◌+◌, ◌*◌, ◌∷◌, ◌++◌, List, ℕ, length, min, IfOk};
+ghost use Rattle.std.specs.Prelude.{OnOk, OnErr};
 ghost use Rattle.std.specs.Int.{w16, w32};
 ghost use Rattle.std.specs.Io.KnownBytes.{Appends};
 ghost use Rattle.wal_port.specs.Faults.{Rose};
@@ -11,7 +12,8 @@ ghost use Rattle.wal_shape.specs.Metadata.{IsMetadata};
 ghost use Rattle.wal_shape.specs.MetaRef.{metadata_shown};
 ghost use Rattle.wal_shape.specs.Spelling.{metadata_text, number_text};
 ghost use Rattle.wal_shape.specs.Opening.{IsBody, opening_shown};
-ghost use Rattle.wal_frame.specs.Frame.{IsFrame, Metadata, Opening, envelope, frame_text, metadata_frame, sliver_frame};
+ghost use Rattle.wal_frame.specs.Frame.{IsFrame, Metadata, Opening, envelope, frame_text};
+ghost use Rattle.wal_frame.specs.Frame.{metadata_frame, sliver_frame};
 ghost use Rattle.wal_frame.specs.Shown.{IsLentKind, frame_shown};
 
 use std::alloc::{AllocError, Global};

@@ -1,6 +1,7 @@
 //! The command that answers requests for ranges of blobs.
 
-ghost use Rattle.std.specs.Prelude.{◌≡◌, ℕ, ◌≤◌, ◌++◌, List, None, codes, cond, IfOk, IfSome, OnOk, length};
+ghost use Rattle.std.specs.Prelude.{◌≡◌, ℕ, ◌≤◌, ◌++◌, List, None, codes, cond, IfOk, IfSome, OnOk};
+ghost use Rattle.std.specs.Prelude.{length};
 ghost use Rattle.wal_port.specs.Faults.{Rose};
 ghost use Rattle.wal_frame.specs.Stream.{IsMalformed, IsStream};
 ghost use Rattle.wal_gateway.specs.Requests.{no_blobs};

@@ -3,7 +3,8 @@
 ghost use Rattle.std.specs.Prelude.{◌≡◌, ◌++◌, IfOk, OnOk};
 ghost use Rattle.wal_store.specs.Contents.{parts_at, part_at};
 ghost use Rattle.wal_run.specs.Command.{IsResult};
-ghost use Rattle.wal_run.specs.Unpacking.{part_word, part_line, part_text, holding_text, contents_text, unpacking};
+ghost use Rattle.wal_run.specs.Unpacking.{part_word, part_line, part_text, holding_text};
+ghost use Rattle.wal_run.specs.Unpacking.{contents_text, unpacking};
 ghost use Rattle.wal_run.specs.inside.Answers.{Says};
 
 use crate::answer::Answer;

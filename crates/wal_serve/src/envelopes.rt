@@ -5,7 +5,8 @@ ghost use Rattle.std.specs.Int.{w16, w32};
 ghost use Rattle.wal_port.specs.Faults.{Rose};
 ghost use Rattle.wal_serve.specs.declared.taking.Took.TheVariants.{Whole};
 ghost use Rattle.wal_serve.specs.inside.Taking.{Takes};
-ghost use Rattle.wal_serve.specs.inside.Envelopes.{IsHead, TakesFirst, TakesHead, TakesEnvelope, lack_of};
+ghost use Rattle.wal_serve.specs.inside.Envelopes.{IsHead, TakesFirst, TakesHead, TakesEnvelope};
+ghost use Rattle.wal_serve.specs.inside.Envelopes.{lack_of};
 
 use crate::payload::Payload;
 use crate::taking::{Took, fill};

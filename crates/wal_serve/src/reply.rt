@@ -5,7 +5,9 @@ ghost use Rattle.wal_frame.specs.Reading.{IsPlaceBelow};
 ghost use Rattle.wal_frame.specs.Buffer.{appended};
 ghost use Rattle.wal_frame.specs.Frame.{envelope};
 ghost use Rattle.wal_ledger.specs.declared.answers.RegisterAnswer.TheVariants.{MovingExtension};
-ghost use Rattle.wal_serve.specs.Reply.{reply, done, refused, malformed, put_reply, refusal_reply, ack_reply, attest_reply, IsRegisterReply, reply_text, clash_text, outcome_text, clash_in};
+ghost use Rattle.wal_serve.specs.Reply.{reply, done, refused, malformed, put_reply, refusal_reply};
+ghost use Rattle.wal_serve.specs.Reply.{ack_reply, attest_reply, IsRegisterReply, reply_text};
+ghost use Rattle.wal_serve.specs.Reply.{clash_text, outcome_text, clash_in};
 ghost use Rattle.wal_serve.specs.inside.Reply.{HasCode};
 
 use wal_frame::{FrameError, FrameRef, OutBuf, write_frame};
@@ -25,7 +27,7 @@ use wal_shard::{AckRefusal, PutAnswer};
 /// | 6 | there are too few free pages | needed | free |
 /// | 7 | there was no memory | 0 | 0 |
 /// | 8 | the blob is not kept beyond the epoch | 0 | 0 |
-/// | 9 | malformed | 1 to 4 by the frame's fault, 5 no request, 6 no shard, 7 too long | the place of a bad field |
+/// | 9 | malformed | 1 to 4 its fault, 5 no request, 6 no shard, 7 too long | a bad field's place |
 /// | 10 | the ledger has no room | 0 | 0 |
 /// | 11 | the part is held | 0 | 0 |
 /// | 12 | the shard's node said so before | 0 | 0 |

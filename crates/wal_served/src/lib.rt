@@ -2,7 +2,8 @@
 //! and the laws as calls.
 #![tactic(auto)]
 
-ghost use Rattle.wal_served.specs.Local.{AnswersAlike, AnswersWithRoom, LeavesAlike, ReadsRestOn, Rebuilds, ServesWhatIsLeft, WantsForMore};
+ghost use Rattle.wal_served.specs.Local.{AnswersAlike, AnswersWithRoom, LeavesAlike, ReadsRestOn};
+ghost use Rattle.wal_served.specs.Local.{Rebuilds, ServesWhatIsLeft, WantsForMore};
 ghost use Rattle.wal_served.specs.Steps.{EveryRequest, EveryServing};
 
 use wal_tree::Hash32;

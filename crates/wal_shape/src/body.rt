@@ -1,6 +1,7 @@
 //! Opening bodies: the spelling of one opening.
 
-ghost use Rattle.std.specs.Prelude.{◌≡◌, ℕ, ◌+◌, ◌*◌, ◌^◌, ◌<◌, ◌≤◌, ◌++◌, List, length, drop, IfOk, Ok};
+ghost use Rattle.std.specs.Prelude.{◌≡◌, ℕ, ◌+◌, ◌*◌, ◌^◌, ◌<◌, ◌≤◌, ◌++◌, List, length, drop};
+ghost use Rattle.std.specs.Prelude.{IfOk, Ok};
 ghost use Rattle.wal_shape.specs.declared.opening.Opening.{Opening};
 ghost use Rattle.wal_shape.specs.Opening.{IsBody, opening_shown};
 ghost use Rattle.wal_shape.specs.Spelling.{body_text};

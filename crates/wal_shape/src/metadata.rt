@@ -1,11 +1,14 @@
 //! What identifies a blob and commits its slivers.
 
-ghost use Rattle.std.specs.Prelude.{◌≡◌, ℕ, ◌+◌, ◌*◌, ◌<◌, ◌≤◌, ◌↔◌, length, take, drop, IsTrue, IfSome, IfNone, IfOk, Some, slice_get};
+ghost use Rattle.std.specs.Prelude.{◌≡◌, ℕ, ◌+◌, ◌*◌, ◌<◌, ◌≤◌, ◌↔◌, length, take, drop, IsTrue};
+ghost use Rattle.std.specs.Prelude.{IfSome, IfNone, IfOk, Some, slice_get};
 ghost use Rattle.wal_shape.specs.Shape.{IsShape, shard_count};
 ghost use Rattle.wal_shape.specs.Metadata.{BlobMetadata, IsMetadata, roots_of, held_index};
 ghost use Rattle.wal_shape.specs.Spelling.{metadata_text, text_size};
-ghost use Rattle.wal_shape.specs.MetadataReading.{behind_format, spelled_f, spelled_format, spelled_length, spelled_metadata};
-ghost use Rattle.wal_shape.specs.inside.MetadataReading.{SpellMetadata, AreNumbersAndRoots, root_place_of};
+ghost use Rattle.wal_shape.specs.MetadataReading.{behind_format, spelled_f, spelled_format};
+ghost use Rattle.wal_shape.specs.MetadataReading.{spelled_length, spelled_metadata};
+ghost use Rattle.wal_shape.specs.inside.MetadataReading.{SpellMetadata, AreNumbersAndRoots};
+ghost use Rattle.wal_shape.specs.inside.MetadataReading.{root_place_of};
 
 use crate::axis::Axis;
 use crate::lists::Bytes;

@@ -1,8 +1,10 @@
 //! Committees: the nodes that run the shards, and lists of shards.
 
-ghost use Rattle.std.specs.Prelude.{◌≡◌, ℕ, ◌+◌, ◌<◌, ◌≤◌, ◌||◌, false, not, true, nat_eq, nat_lt, length, slice_index_or};
+ghost use Rattle.std.specs.Prelude.{◌≡◌, ℕ, ◌+◌, ◌<◌, ◌≤◌, ◌||◌, false, not, true, nat_eq, nat_lt};
+ghost use Rattle.std.specs.Prelude.{length, slice_index_or};
 ghost use Rattle.std.specs.List.{list_any, list_all};
-ghost use Rattle.wal_shape.specs.Owners.{among, are_owners, has_neighbour, is_ascending, is_closed, is_committee, node_of};
+ghost use Rattle.wal_shape.specs.Owners.{among, are_owners, has_neighbour, is_ascending, is_closed};
+ghost use Rattle.wal_shape.specs.Owners.{is_committee, node_of};
 
 use crate::lists::Shards;
 

@@ -1,6 +1,7 @@
 //! Proofs of bad encoding.
 
-ghost use Rattle.std.specs.Prelude.{◌≡◌, ℕ, ◌<◌, ◌≤◌, ◌++◌, List, [], length, drop, Option, Some, None, Ok, option_map, slice_get, IfSome, IfNone, IfOk, OnOk};
+ghost use Rattle.std.specs.Prelude.{◌≡◌, ℕ, ◌<◌, ◌≤◌, ◌++◌, List, [], length, drop, Option, Some};
+ghost use Rattle.std.specs.Prelude.{None, Ok, option_map, slice_get, IfSome, IfNone, IfOk, OnOk};
 ghost use Rattle.wal_shape.specs.declared.opening.Opening.{Opening};
 ghost use Rattle.wal_shape.specs.Opening.{IsBody, opening_shown};
 ghost use Rattle.wal_shape.specs.EncodingProof.{EncodingProof, IsProof};

@@ -1,7 +1,8 @@
 //! How a blob is laid out over the shards.
 
 ghost use Rattle.std.specs.Prelude.{◌≡◌, ℕ, ◌+◌, ◌*◌, ◌^◌, ◌<◌, ◌≤◌, ◌↔◌, IfOk, IsOk};
-ghost use Rattle.wal_shape.specs.Shape.{BlobShape, IsShape, IsSymbolSize, shard_count, row_count, column_count, symbol_size, sliver_symbols, most_bytes};
+ghost use Rattle.wal_shape.specs.Shape.{BlobShape, IsShape, IsSymbolSize, shard_count, row_count};
+ghost use Rattle.wal_shape.specs.Shape.{column_count, symbol_size, sliver_symbols, most_bytes};
 ghost use Rattle.wal_shape.specs.declared.shape.Format.TheVariants.{One};
 ghost use Rattle.wal_shape.specs.declared.shape.ShapeError.TheVariants.{BadFaults, TooLong};
 

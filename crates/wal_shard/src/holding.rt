@@ -1,6 +1,7 @@
 //! What a shard reads of what it holds.
 
-ghost use Rattle.std.specs.Prelude.{◌≡◌, ◌↔◌, ◌+◌, ◌≤◌, [], Some, None, IsTrue, IsSome, IfOk, IfSome, IfNone, is_some, length, take, drop, unwrap_or};
+ghost use Rattle.std.specs.Prelude.{◌≡◌, ◌↔◌, ◌+◌, ◌≤◌, [], Some, None, IsTrue, IsSome, IfOk};
+ghost use Rattle.std.specs.Prelude.{IfSome, IfNone, is_some, length, take, drop, unwrap_or};
 ghost use Rattle.wal_shape.specs.Shape.{most_bytes};
 ghost use Rattle.wal_shape.specs.Metadata.{BlobMetadata, IsMetadata};
 ghost use Rattle.wal_shape.specs.Spelling.{metadata_text};

@@ -1,6 +1,7 @@
 //! What a shard makes of metadata, slivers and proofs that are put to it.
 
-ghost use Rattle.std.specs.Prelude.{◌≡◌, ◌↔◌, ◌≤◌, [], Some, None, IsTrue, IsSome, length, unwrap_or};
+ghost use Rattle.std.specs.Prelude.{◌≡◌, ◌↔◌, ◌≤◌, [], Some, None, IsTrue, IsSome, length};
+ghost use Rattle.std.specs.Prelude.{unwrap_or};
 ghost use Rattle.wal_commit.specs.Identifier.{AreDigestedFor, identifier_of};
 ghost use Rattle.wal_shape.specs.Shape.{most_bytes};
 ghost use Rattle.wal_shape.specs.Metadata.{BlobMetadata};

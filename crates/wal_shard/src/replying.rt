@@ -1,6 +1,7 @@
 //! What a shard answers to requests for what it holds.
 
-ghost use Rattle.std.specs.Prelude.{◌≡◌, ℕ, ◌+◌, ◌*◌, ◌%◌, ◌<◌, ◌≤◌, List, [], ◌∷◌, ◌++◌, Some, None, IsSome, length, unwrap_or};
+ghost use Rattle.std.specs.Prelude.{◌≡◌, ℕ, ◌+◌, ◌*◌, ◌%◌, ◌<◌, ◌≤◌, List, [], ◌∷◌, ◌++◌, Some};
+ghost use Rattle.std.specs.Prelude.{None, IsSome, length, unwrap_or};
 ghost use Rattle.wal_kernel.specs.Region.{region};
 ghost use Rattle.wal_shape.specs.MetadataReading.{spelled_format};
 ghost use Rattle.wal_shape.specs.declared.part.Part.TheVariants as parts;
@@ -354,6 +355,9 @@ impl<H: Hash32, K: Keep> Shard<H, K> {
     {
         self.sound();
         let size = self.metadata_size(id);
-        with_room!(size, room => self.open_loaded_in(work, id, axis, index, &mut room[..size], out));
+        with_room!(
+            size,
+            room => self.open_loaded_in(work, id, axis, index, &mut room[..size], out)
+        );
     }
 }

@@ -1,6 +1,7 @@
 //! The shard.
 
-ghost use Rattle.std.specs.Prelude.{◌≡◌, ◌↔◌, ℕ, ◌+◌, ◌<◌, ◌≤◌, List, Some, IsTrue, IfOk, false, is_some};
+ghost use Rattle.std.specs.Prelude.{◌≡◌, ◌↔◌, ℕ, ◌+◌, ◌<◌, ◌≤◌, List, Some, IsTrue, IfOk, false};
+ghost use Rattle.std.specs.Prelude.{is_some};
 ghost use Rattle.std.specs.FinMap as map;
 ghost use Rattle.wal_shape.specs.Shape.{shard_count};
 ghost use Rattle.wal_shape.specs.MetaRef.{metadata_shown};

@@ -1,7 +1,10 @@
 //! Bytes in chains of pages.
 
-ghost use Rattle.std.specs.Prelude.{◌≡◌, ℕ, ◌+◌, ◌-◌, ◌*◌, ◌<◌, ◌≤◌, List, [], ◌∷◌, Some, None, length, take, drop, replicate, slice_get, slice_set, slice_index, IfOk, All, count_by};
-ghost use Rattle.wal_pool.specs.Pages.{PageState, Free, Taken, is_free, page_bytes, IsTakenPage, AreWhole};
+ghost use Rattle.std.specs.Prelude.{◌≡◌, ℕ, ◌+◌, ◌-◌, ◌*◌, ◌<◌, ◌≤◌, List, [], ◌∷◌, Some, None};
+ghost use Rattle.std.specs.Prelude.{length, take, drop, replicate, slice_get, slice_set};
+ghost use Rattle.std.specs.Prelude.{slice_index, IfOk, All, count_by};
+ghost use Rattle.wal_pool.specs.Pages.{PageState, Free, Taken, is_free, page_bytes, IsTakenPage};
+ghost use Rattle.wal_pool.specs.Pages.{AreWhole};
 ghost use Rattle.wal_store.specs.Parts.{pages_for};
 ghost use Rattle.wal_store.specs.inside.Chain.{Linked, links, joined, uses, taken_at, Adds, Frees};
 

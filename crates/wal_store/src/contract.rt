@@ -1,11 +1,14 @@
 //! What each keep is: a finite map from identifiers to holdings.
 
-ghost use Rattle.std.specs.Prelude.{◌≡◌, ℕ, ◌+◌, ◌<◌, ◌≤◌, Bool, false, not, List, [], Option, Some, None, IsSome, IfSome, OnOk, OnErr, length, take, drop, slice_get, unwrap_or};
+ghost use Rattle.std.specs.Prelude.{◌≡◌, ℕ, ◌+◌, ◌<◌, ◌≤◌, Bool, false, not, List, [], Option};
+ghost use Rattle.std.specs.Prelude.{Some, None, IsSome, IfSome, OnOk, OnErr, length, take, drop};
+ghost use Rattle.std.specs.Prelude.{slice_get, unwrap_or};
 ghost use Rattle.std.specs.Option.{option_map};
 ghost use Rattle.std.specs.FinMap as map;
 ghost use Rattle.wal_shape.specs.Shape.{most_bytes};
 ghost use Rattle.wal_store.specs.Parts.{is_empty};
-ghost use Rattle.wal_store.specs.Contents.{Contents, parts_at, cost, part_at, with_bytes, without_part};
+ghost use Rattle.wal_store.specs.Contents.{Contents, parts_at, cost, part_at, with_bytes};
+ghost use Rattle.wal_store.specs.Contents.{without_part};
 ghost use Rattle.wal_store.specs.Answer.{IsPutAnswer};
 ghost use Rattle.wal_store.specs.Places.{next_id};
 

@@ -1,9 +1,11 @@
 //! The four parts that are held under one identifier.
 
-ghost use Rattle.std.specs.Prelude.{◌≡◌, ℕ, ◌+◌, ◌<◌, ◌≤◌, List, Option, Some, None, IsTrue, IfOk, IfSome, OnErr, length};
+ghost use Rattle.std.specs.Prelude.{◌≡◌, ℕ, ◌+◌, ◌<◌, ◌≤◌, List, Option, Some, None, IsTrue, IfOk};
+ghost use Rattle.std.specs.Prelude.{IfSome, OnErr, length};
 ghost use Rattle.std.specs.Option.{option_map};
 ghost use Rattle.wal_shape.specs.Shape.{most_bytes};
-ghost use Rattle.wal_store.specs.Parts.{Parts, no_parts, part_of, with_part, is_empty, cost_of, part_cost, pages_for, is_fit};
+ghost use Rattle.wal_store.specs.Parts.{Parts, no_parts, part_of, with_part, is_empty, cost_of};
+ghost use Rattle.wal_store.specs.Parts.{part_cost, pages_for, is_fit};
 
 use std::alloc::{AllocError, Global};
 use std::marker::Model;

@@ -1,6 +1,8 @@
 //! The holdings of a table of rows, by their identifiers.
 
-ghost use Rattle.std.specs.Prelude.{◌≡◌, false, ℕ, ◌+◌, ◌<◌, ◌≤◌, List, [], Option, Some, None, is_some, if◌then◌else◌, IsSome, IfSome, IfOk, IfErr, OnOk, OnErr, length, take, drop, unwrap_or, slice_get, count_by};
+ghost use Rattle.std.specs.Prelude.{◌≡◌, false, ℕ, ◌+◌, ◌<◌, ◌≤◌, List, [], Option, Some, None};
+ghost use Rattle.std.specs.Prelude.{is_some, if◌then◌else◌, IsSome, IfSome, IfOk, IfErr, OnOk};
+ghost use Rattle.std.specs.Prelude.{OnErr, length, take, drop, unwrap_or, slice_get, count_by};
 ghost use Rattle.std.specs.Option.{option_map};
 ghost use Rattle.std.specs.BTreeMap.{is_at, insert_entry};
 ghost use Rattle.std.specs.Map.{remove_entry};

@@ -11,7 +11,9 @@ ghost use Rattle.wal_store.specs.declared.contract.KeepError.TheVariants.{Memory
 ghost use Rattle.wal_store.specs.Contents.{part_at};
 ghost use Rattle.wal_store.specs.Copies.{CopiesJoin, CopiesMakeAll};
 ghost use Rattle.wal_store.specs.Places.{ClosesPlace, KeepsBelow, MovesDown};
-ghost use Rattle.wal_store.specs.Calls.{Put, DropPart, DropId, Continues, PutsAgree, RunsAgree, NeverWants, RunsTogether, EndsAfterCalls, CallsInParts, LawfulInParts};
+ghost use Rattle.wal_store.specs.Calls.{Put, DropPart, DropId, Continues, PutsAgree, RunsAgree};
+ghost use Rattle.wal_store.specs.Calls.{NeverWants, RunsTogether, EndsAfterCalls, CallsInParts};
+ghost use Rattle.wal_store.specs.Calls.{LawfulInParts};
 
 use crate::contract::{Keep, KeepError};
 use crate::pool_keep::PoolKeep;

@@ -1,17 +1,22 @@
 //! A keep over std's ordered map.
 
-ghost use Rattle.std.specs.Prelude.{◌≡◌, true, false, ℕ, ◌+◌, ◌-◌, ◌^◌, ◌<◌, ◌≤◌, Bool, List, Option, Some, None, Ok, Err, IsTrue, IsSome, slice_get, IfOk, IfSome, OnOk, OnErr, length};
+ghost use Rattle.std.specs.Prelude.{◌≡◌, true, false, ℕ, ◌+◌, ◌-◌, ◌^◌, ◌<◌, ◌≤◌, Bool, List};
+ghost use Rattle.std.specs.Prelude.{Option, Some, None, Ok, Err, IsTrue, IsSome, slice_get, IfOk};
+ghost use Rattle.std.specs.Prelude.{IfSome, OnOk, OnErr, length};
 ghost use Rattle.std.specs.Option.{option_map, ForSome};
 ghost use Rattle.std.specs.FinMap as map;
 ghost use Rattle.std.specs.BTreeMap.{IsOrdered, is_at, insert_entry};
 ghost use Rattle.std.specs.Map.{keys_of, remove_entry};
 ghost use Rattle.wal_shape.specs.Shape.{most_bytes};
 ghost use Rattle.wal_shape.specs.Identifiers.{id_cmp};
-ghost use Rattle.wal_store.specs.Parts.{Parts, is_empty, is_fit, no_parts, part_of, with_part, part_cost, cost_of, pages_for};
+ghost use Rattle.wal_store.specs.Parts.{Parts, is_empty, is_fit, no_parts, part_of, with_part};
+ghost use Rattle.wal_store.specs.Parts.{part_cost, cost_of, pages_for};
 ghost use Rattle.wal_store.specs.Contents.{Contents, StoreState, part_at, cost};
 ghost use Rattle.wal_store.specs.declared.map_keep.Budget.{Budget};
 ghost use Rattle.wal_store.specs.Entries.{key_past};
-ghost use Rattle.wal_store.specs.inside.Entries.{parts_in, found_in, cost_in, cost_at, needed_in, changed_in, freed_in, InBudget, past_bound, room_answer};
+ghost use Rattle.wal_store.specs.inside.Entries.{parts_in, found_in, cost_in, cost_at, needed_in};
+ghost use Rattle.wal_store.specs.inside.Entries.{changed_in, freed_in, InBudget, past_bound};
+ghost use Rattle.wal_store.specs.inside.Entries.{room_answer};
 
 use crate::contract::{Keep, KeepError};
 use crate::holding::{Holding, pages_for};

@@ -1,6 +1,7 @@
 //! Rows that stay where they were written, and their order as a list of numbers.
 
-ghost use Rattle.std.specs.Prelude.{◌≡◌, ℕ, ◌<◌, ◌≤◌, List, [], Some, IfOk, IfErr, filter, length, slice_get, slice_set, slice_index_or, vec_len, vec_capacity};
+ghost use Rattle.std.specs.Prelude.{◌≡◌, ℕ, ◌<◌, ◌≤◌, List, [], Some, IfOk, IfErr, filter, length};
+ghost use Rattle.std.specs.Prelude.{slice_get, slice_set, slice_index_or, vec_len, vec_capacity};
 ghost use Rattle.std.specs.List.{insert, remove, range_with_len};
 ghost use Rattle.std.specs.List.Sorted.{IsStrictlySortedBy};
 ghost use Rattle.wal_shape.specs.Identifiers.{id_cmp};

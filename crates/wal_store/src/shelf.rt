@@ -1,7 +1,9 @@
 //! A pool whose pages are named by their numbers.
 
-ghost use Rattle.std.specs.Prelude.{◌≡◌, ℕ, ◌+◌, ◌<◌, ◌≤◌, List, Some, None, length, take, replicate, slice_get, slice_set, IfOk, All, count_by};
-ghost use Rattle.wal_pool.specs.Pages.{PageState, Free, Taken, is_free, page_bytes, IsTakenPage, AreWhole, overwrite};
+ghost use Rattle.std.specs.Prelude.{◌≡◌, ℕ, ◌+◌, ◌<◌, ◌≤◌, List, Some, None, length, take};
+ghost use Rattle.std.specs.Prelude.{replicate, slice_get, slice_set, IfOk, All, count_by};
+ghost use Rattle.wal_pool.specs.Pages.{PageState, Free, Taken, is_free, page_bytes, IsTakenPage};
+ghost use Rattle.wal_pool.specs.Pages.{AreWhole, overwrite};
 ghost use Rattle.wal_store.specs.inside.Shelf.{tokens_of};
 
 use std::alloc::{AllocError, Global};

@@ -1,12 +1,14 @@
 //! The rows of a keep and the chains of pages that they own, changed together.
 
-ghost use Rattle.std.specs.Prelude.{◌≡◌, ℕ, ◌+◌, ◌<◌, ◌≤◌, List, Some, None, length, slice_get, slice_set, count_by};
+ghost use Rattle.std.specs.Prelude.{◌≡◌, ℕ, ◌+◌, ◌<◌, ◌≤◌, List, Some, None, length, slice_get};
+ghost use Rattle.std.specs.Prelude.{slice_set, count_by};
 ghost use Rattle.std.specs.List.{insert, remove};
 ghost use Rattle.wal_pool.specs.Pages.{is_free};
 ghost use Rattle.wal_shape.specs.Shape.{most_bytes};
 ghost use Rattle.wal_store.specs.Parts.{no_parts, with_part, pages_for};
 ghost use Rattle.wal_store.specs.inside.Chain.{Linked, links};
-ghost use Rattle.wal_store.specs.inside.Rows.{slot_of, with_slot, no_slots, slot_links, slot_cost, parts_of, ids_of, entries_of, Owns, IsGap};
+ghost use Rattle.wal_store.specs.inside.Rows.{slot_of, with_slot, no_slots, slot_links, slot_cost};
+ghost use Rattle.wal_store.specs.inside.Rows.{parts_of, ids_of, entries_of, Owns, IsGap};
 ghost use Rattle.wal_store.specs.inside.Table.{all_pages};
 ghost use Rattle.wal_store.specs.declared.rows.Row.{Row};
 ghost use Rattle.wal_store.specs.declared.rows.Slot.{Slot};

@@ -1,6 +1,7 @@
 //! Two leaves or two contents that differ under one root show two texts with one digest.
 
-ghost use Rattle.std.specs.Prelude.{◌≡◌, ◌≢◌, ◌*◌, ◌/◌, ◌%◌, ◌<◌, ◌≤◌, ◌∷◌, ℕ, List, IfOk, drop, length, take};
+ghost use Rattle.std.specs.Prelude.{◌≡◌, ◌≢◌, ◌*◌, ◌/◌, ◌%◌, ◌<◌, ◌≤◌, ◌∷◌, ℕ, List, IfOk, drop};
+ghost use Rattle.std.specs.Prelude.{length, take};
 ghost use Rattle.wal_tree.specs.Collision.{IsCollision};
 ghost use Rattle.wal_tree.specs.Path.{LeadToOneRoot, MeetAbove, MeetInTrees, MeetOnPaths, folded};
 ghost use Rattle.wal_tree.specs.Tree.{pieces, root_over};

@@ -1,4 +1,5 @@
-ghost use Rattle.std.specs.Prelude.{◌≡◌, ℕ, ◌+◌, ◌*◌, ◌/◌, ◌%◌, ◌<◌, ◌≤◌, ◌^◌, ◌++◌, List, All, OnOk, length, slice_index, bit_xor};
+ghost use Rattle.std.specs.Prelude.{◌≡◌, ℕ, ◌+◌, ◌*◌, ◌/◌, ◌%◌, ◌<◌, ◌≤◌, ◌^◌, ◌++◌, List, All};
+ghost use Rattle.std.specs.Prelude.{OnOk, length, slice_index, bit_xor};
 ghost use Rattle.sha2.specs.Sha256.{sha256};
 ghost use Rattle.wal_lanes.specs.Pieces.{AreDigests};
 ghost use Rattle.wal_lanes.specs.Strips.{AreDigestsOf};

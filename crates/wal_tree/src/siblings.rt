@@ -1,4 +1,5 @@
-ghost use Rattle.std.specs.Prelude.{◌≡◌, ◌+◌, ◌*◌, ◌/◌, ◌%◌, ◌<◌, ◌≤◌, drop, length, slice_index_or, take};
+ghost use Rattle.std.specs.Prelude.{◌≡◌, ◌+◌, ◌*◌, ◌/◌, ◌%◌, ◌<◌, ◌≤◌, drop, length};
+ghost use Rattle.std.specs.Prelude.{slice_index_or, take};
 ghost use Rattle.wal_tree.specs.Tree.{empty_entry, leaves, root_over};
 ghost use Rattle.wal_tree.specs.inside.Tree.{level_above};
 ghost use Rattle.wal_tree.specs.Path.{IsPathTo, beside, path_over};

@@ -1,7 +1,8 @@
 //! Many trees of one shape, built at once while their leaves come in order, a column of leaves at a
 //! time.
 
-ghost use Rattle.std.specs.Prelude.{◌≡◌, ℕ, ◌+◌, ◌*◌, ◌<◌, ◌≤◌, [], ◌∷◌, ◌++◌, List, None, All, IfOk, OnOk, OnErr, length, map, slice_index_or, take, drop};
+ghost use Rattle.std.specs.Prelude.{◌≡◌, ℕ, ◌+◌, ◌*◌, ◌<◌, ◌≤◌, [], ◌∷◌, ◌++◌, List, None, All};
+ghost use Rattle.std.specs.Prelude.{IfOk, OnOk, OnErr, length, map, slice_index_or, take, drop};
 ghost use Rattle.wal_lanes.specs.inside.Lanes.{put_at};
 ghost use Rattle.wal_tree.specs.Tree.{node, root_of};
 ghost use Rattle.wal_tree.specs.Stack.{climb, pushed};

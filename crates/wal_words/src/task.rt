@@ -1,11 +1,13 @@
 //! The commands, and the words that ask for each.
 
-ghost use Rattle.std.specs.Prelude.{◌≡◌, ℕ, List, [], ◌∷◌, map, string_bytes, IfOk, IfSome, IfNone, Option, Some, None, option_map, codes};
+ghost use Rattle.std.specs.Prelude.{◌≡◌, ℕ, List, [], ◌∷◌, map, string_bytes, IfOk, IfSome, IfNone};
+ghost use Rattle.std.specs.Prelude.{Option, Some, None, option_map, codes};
 ghost use Rattle.wal_words.specs.declared.task.Audit.{Audit};
 ghost use Rattle.wal_words.specs.declared.task.Options.{Options};
 ghost use Rattle.wal_words.specs.declared.task.Task.{Task};
 ghost use Rattle.wal_words.specs.CommandLine.{values_in, option_in};
-ghost use Rattle.wal_words.specs.Task.{HasFormat, HasNumber, HasOptions, IsAudit, IsRow, IsTask, NoTask};
+ghost use Rattle.wal_words.specs.Task.{HasFormat, HasNumber, HasOptions, IsAudit, IsRow, IsTask};
+ghost use Rattle.wal_words.specs.Task.{NoTask};
 ghost use Rattle.wal_words.specs.inside.Task.{FoundAsks};
 ghost use Rattle.clap.specs.Words.{first_value, found_of};
 

@@ -1,6 +1,7 @@
 //! The first completed answer for a blob, and one that is not the same.
 
-ghost use Rattle.std.specs.Prelude.{◌≡◌, ◌≢◌, ◌↔◌, ◌≤◌, Some, None, IsTrue, IfOk, IfSome, IfNone, length};
+ghost use Rattle.std.specs.Prelude.{◌≡◌, ◌≢◌, ◌↔◌, ◌≤◌, Some, None, IsTrue, IfOk, IfSome, IfNone};
+ghost use Rattle.std.specs.Prelude.{length};
 ghost use Rattle.wal_shape.specs.declared.shape.Format.{Format};
 ghost use Rattle.wal_shape.specs.Shape.{most_bytes};
 ghost use Rattle.wal_tree.specs.Collision.{IsCollision};

@@ -7,7 +7,8 @@ ghost use Rattle.wal_ledger.specs.Ledger.{is_moving};
 ghost use Rattle.wal_ledger.specs.Shards.{committee_size};
 ghost use Rattle.wal_shape.specs.Owners.{among};
 ghost use Rattle.wal_world.specs.declared.books.Books.TheVariants as states;
-ghost use Rattle.wal_world.specs.inside.Books.{AreBooks, IsBeginError, IsBegun, IsFinishError, IsFinished, books_with, faulty_on, ledger_of};
+ghost use Rattle.wal_world.specs.inside.Books.{AreBooks, IsBeginError, IsBegun, IsFinishError};
+ghost use Rattle.wal_world.specs.inside.Books.{IsFinished, books_with, faulty_on, ledger_of};
 
 use std::mem;
 use wal_epoch::{BeginError, Committee, FinishError, Moving, Serving};

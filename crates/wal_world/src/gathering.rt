@@ -1,6 +1,7 @@
 //! What shards reply to one that recovers a sliver.
 
-ghost use Rattle.std.specs.Prelude.{◌≡◌, ℕ, ◌+◌, ◌<◌, ◌≤◌, true, List, [], ◌∷◌, None, IfOk, IfSome, IfNone, length};
+ghost use Rattle.std.specs.Prelude.{◌≡◌, ℕ, ◌+◌, ◌<◌, ◌≤◌, true, List, [], ◌∷◌, None, IfOk, IfSome};
+ghost use Rattle.std.specs.Prelude.{IfNone, length};
 ghost use Rattle.std.specs.List.{flat_map};
 ghost use Rattle.wal_ledger.specs.Shards.{committee_size};
 ghost use Rattle.wal_event.specs.Event.{IsReply};

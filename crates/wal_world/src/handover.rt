@@ -1,6 +1,7 @@
 //! The change of the epoch: its beginning, the shards that are ready, and its end.
 
-ghost use Rattle.std.specs.Prelude.{◌≡◌, ◌↔◌, ℕ, ◌+◌, ◌<◌, ◌≤◌, IfOk, IsTrue, None, OnOk, true, false, [], ◌&&◌, cond, length, map, nat_le};
+ghost use Rattle.std.specs.Prelude.{◌≡◌, ◌↔◌, ℕ, ◌+◌, ◌<◌, ◌≤◌, IfOk, IsTrue, None, OnOk, true};
+ghost use Rattle.std.specs.Prelude.{false, [], ◌&&◌, cond, length, map, nat_le};
 ghost use Rattle.std.specs.FinMap as finmap;
 ghost use Rattle.wal_epoch.specs.Moves.{MayBegin};
 ghost use Rattle.wal_ledger.specs.Ledger.{is_moving, reading};
@@ -8,9 +9,11 @@ ghost use Rattle.wal_ledger.specs.Shards.{committee_size};
 ghost use Rattle.wal_shape.specs.Owners.{among, is_ascending, is_committee, node_of};
 ghost use Rattle.wal_shape.specs.declared.axis.Side.TheVariants.{Now};
 ghost use Rattle.wal_world.specs.inside.Books.{AreBooks, IsBegun, IsFinished, ledger_of};
-ghost use Rattle.wal_world.specs.inside.Network.{IsNetwork, capacity_of, dropped, shard_with, shards_with, spare_of, world_of};
+ghost use Rattle.wal_world.specs.inside.Network.{IsNetwork, capacity_of, dropped, shard_with};
+ghost use Rattle.wal_world.specs.inside.Network.{shards_with, spare_of, world_of};
 ghost use Rattle.wal_protocol.specs.State.{contents_of, side_of};
-ghost use Rattle.wal_protocol.specs.Step.{BeginStep, FinishStep, HoldsAll, IsUnready, MayBeReady, ReadyStep, is_carried_over};
+ghost use Rattle.wal_protocol.specs.Step.{BeginStep, FinishStep, HoldsAll, IsUnready, MayBeReady};
+ghost use Rattle.wal_protocol.specs.Step.{ReadyStep, is_carried_over};
 
 use crate::books::{begin_in, finish_in, ledger_in, ready_in};
 use crate::members::Members;

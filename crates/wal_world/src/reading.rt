@@ -1,6 +1,7 @@
 //! A reader has replies, and what they come to is compared with the first completed answer.
 
-ghost use Rattle.std.specs.Prelude.{◌≡◌, ℕ, ◌+◌, ◌<◌, ◌≤◌, ◌++◌, List, [], Some, true, IfOk, OnOk, length};
+ghost use Rattle.std.specs.Prelude.{◌≡◌, ℕ, ◌+◌, ◌<◌, ◌≤◌, ◌++◌, List, [], Some, true, IfOk, OnOk};
+ghost use Rattle.std.specs.Prelude.{length};
 ghost use Rattle.std.specs.List.{flat_map};
 ghost use Rattle.wal_ledger.specs.Shards.{committee_size};
 ghost use Rattle.wal_evidence.specs.Evidence.{IsEvidence, IsJudgedBy};
@@ -14,7 +15,8 @@ ghost use Rattle.wal_protocol.specs.declared.first.First.TheVariants.{Judged};
 ghost use Rattle.wal_protocol.specs.State.{held, side_of, is_present};
 ghost use Rattle.wal_theorem.specs.Instance.{IsBackedBy, rules_of};
 ghost use Rattle.wal_world.specs.inside.Network.{IsNetwork, world_of};
-ghost use Rattle.wal_world.specs.inside.Replies.{AreBacked, CollidesOn, IsCompared, IsLike, IsTold, ReadsOn};
+ghost use Rattle.wal_world.specs.inside.Replies.{AreBacked, CollidesOn, IsCompared, IsLike, IsTold};
+ghost use Rattle.wal_world.specs.inside.Replies.{ReadsOn};
 ghost use Rattle.wal_protocol.specs.Step.{ReadStep, ReadCollides, reply_payloads, read_payloads};
 ghost use Rattle.wal_world.specs.inside.Taken.{IsTaken};
 

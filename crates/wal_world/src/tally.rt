@@ -1,6 +1,7 @@
 //! What is counted of the lines of a run.
 
-ghost use Rattle.std.specs.Prelude.{◌≡◌, ◌+◌, ◌<◌, ◌≤◌, ◌++◌, [], cond, is_some, length, min, List, OnOk, option_map, option_to_list};
+ghost use Rattle.std.specs.Prelude.{◌≡◌, ◌+◌, ◌<◌, ◌≤◌, ◌++◌, [], cond, is_some, length, min, List};
+ghost use Rattle.std.specs.Prelude.{OnOk, option_map, option_to_list};
 ghost use Rattle.std.specs.BTreeSet.{IsFromIterResult, btree_set_len};
 ghost use Rattle.std.specs.List.{reduce};
 ghost use Rattle.wal_event.specs.declared.line.Line.{Line};

@@ -1,6 +1,7 @@
 //! The world: a state of the network, and what each event makes of it.
 
-ghost use Rattle.std.specs.Prelude.{◌≡◌, ◌<◌, ◌≤◌, ◌+◌, false, true, length, Err, IfErr, IfOk, IsErr, OnErr, OnOk};
+ghost use Rattle.std.specs.Prelude.{◌≡◌, ◌<◌, ◌≤◌, ◌+◌, false, true, length, Err, IfErr, IfOk};
+ghost use Rattle.std.specs.Prelude.{IsErr, OnErr, OnOk};
 ghost use Rattle.wal_epoch.specs.Moves.{Creates, IsFit};
 ghost use Rattle.wal_event.specs.Event.{IsEventWithin};
 ghost use Rattle.wal_ledger.specs.Shards.{committee_size};

@@ -1,6 +1,7 @@
 //! An honest writer writes a blob.
 
-ghost use Rattle.std.specs.Prelude.{◌≡◌, ◌<◌, ◌≤◌, ◌∷◌, ℕ, [], cond, length, ◌&&◌, Some, IsTrue, is_some, true, IfOk, OnOk};
+ghost use Rattle.std.specs.Prelude.{◌≡◌, ◌<◌, ◌≤◌, ◌∷◌, ℕ, [], cond, length, ◌&&◌, Some, IsTrue};
+ghost use Rattle.std.specs.Prelude.{is_some, true, IfOk, OnOk};
 ghost use Rattle.std.specs.List.{AllByRecursion};
 ghost use Rattle.wal_shape.specs.Owners.{is_ascending};
 ghost use Rattle.wal_shape.specs.Shape.{most_bytes};
@@ -14,7 +15,8 @@ ghost use Rattle.wal_writer.specs.Message.{messages_of};
 ghost use Rattle.wal_protocol.specs.State.{held, is_correct, is_present, side_of, writing_side};
 ghost use Rattle.wal_theorem.specs.Instance.{has_frames, rules_of};
 ghost use Rattle.wal_world.specs.inside.Network.{IsNetwork, world_of};
-ghost use Rattle.wal_world.specs.inside.Letters.{AreParts, IsStarted, PutsTo, SpellsPart, TellsClash, addressed, frame_in, letters_in};
+ghost use Rattle.wal_world.specs.inside.Letters.{AreParts, IsStarted, PutsTo, SpellsPart};
+ghost use Rattle.wal_world.specs.inside.Letters.{TellsClash, addressed, frame_in, letters_in};
 ghost use Rattle.wal_world.specs.inside.Replies.{AreBacked};
 ghost use Rattle.wal_protocol.specs.Step.{WriteCollides, WriteStep, letters, stored_at};
 ghost use Rattle.wal_world.specs.inside.Taken.{IsAnswered, IsTaken};

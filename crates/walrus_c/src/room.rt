@@ -5,7 +5,8 @@ ghost use Rattle.wal_shape.specs.Shape.{most_bytes, shard_count};
 ghost use Rattle.wal_shape.specs.Spelling.{text_size};
 ghost use Rattle.walrus_c.specs.Encoded.{encoded_bytes};
 ghost use Rattle.wal_run.specs.Serving.{serve_limit};
-ghost use Rattle.walrus_c.specs.Room.{fetched_most, most_taken, no_memory_told, none_given, opening_most, room_of, served_most, whole_room};
+ghost use Rattle.walrus_c.specs.Room.{fetched_most, most_taken, no_memory_told, none_given};
+ghost use Rattle.walrus_c.specs.Room.{opening_most, room_of, served_most, whole_room};
 ghost use Rattle.walrus_c.specs.inside.Ranges.{InRange, WholeInRange};
 ghost use Rattle.walrus_c.specs.inside.Rooming.{IsTold};
 

@@ -1,6 +1,7 @@
 //! The words of a command in one text, each with a zero byte behind it.
 
-ghost use Rattle.std.specs.Prelude.{◌≡◌, ◌⊎◌, ◌∷◌, ℕ, List, map, string_bytes, IfOk, IfErr, OnOk, IsUtf8, ◌++◌, []};
+ghost use Rattle.std.specs.Prelude.{◌≡◌, ◌⊎◌, ◌∷◌, ℕ, List, map, string_bytes, IfOk, IfErr, OnOk};
+ghost use Rattle.std.specs.Prelude.{IsUtf8, ◌++◌, []};
 ghost use Rattle.walrus_c.specs.Words.{AreWords, AreNoWords};
 ghost use Rattle.walrus_c.specs.inside.Reading.{ReadSoFar};
 
