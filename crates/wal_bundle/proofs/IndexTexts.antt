@@ -83,6 +83,7 @@ unfolding whole_columns
 whole_long size bytes some =
     rw (length-append, length-replicate) (omega (arith, columns_for-room size (length bytes) some))
 
+-- the whole columns of some bytes begin with these bytes
 pub whole_front : (size : ℕ) (bytes : List ℕ) → take (length bytes) (whole_columns size bytes) ≡ bytes
 unfolding whole_columns
 whole_front size bytes = take_at bytes (replicate (columns_for size (length bytes) * size - length bytes) 0) (length bytes) refl

@@ -110,13 +110,16 @@ module _ (f : ℕ) (lengths : List ℕ) where
     pub below : (h : ℕ) → 1 ≤ h → h < low → ColumnsFit f lengths (2 * h) → ⊥
     pub above : high ≤ most → ColumnsFit f lengths (2 * high)
 
+  -- the bounds at the start: 1, and the number behind the most
   pub narrows_start : (most : ℕ) → Narrows most 1 (most + 1)
   narrows_start most = omega arith
 
+  -- if twice the middle has room, the middle is the new upper bound
   pub narrows_down : (most low high middle : ℕ) → Narrows most low high → low ≤ middle → middle < high → ColumnsFit f lengths (2 * middle) → Narrows most low middle
   narrows_down most low high middle n after before room =
       record { some = n.some; order = after; top = omega (arith, n.top); below = n.below; above = λ _. room }
 
+  -- if twice the middle has no room, the number behind the middle is the new lower bound
   pub narrows_up : (most low high middle : ℕ) → Narrows most low high → low ≤ middle → middle < high → (ColumnsFit f lengths (2 * middle) → ⊥) → Narrows most (middle + 1) high
   narrows_up most low high middle n after before none = record {
     some = omega arith;
@@ -126,16 +129,19 @@ module _ (f : ℕ) (lengths : List ℕ) where
     above = n.above;
   }
 
+  -- if the bounds have met within the most, twice the lower one is the bundle's size
   pub narrowed : (most low high : ℕ) → Narrows most low high → high ≤ low → low ≤ most → IsBundleSize f lengths (2 * low)
   narrowed most low high n met within =
       let same : high ≡ low = omega (arith, n.order) in
       least_by_halves low n.some (rw same at (n.above (omega arith))) n.below
 
+  -- if the lower bound is past the most, each even size with room is greater than twice the most
   pub narrowed_out : (most low high : ℕ) → Narrows most low high → most < low → (t : ℕ) → t % 2 ≡ 0 → 2 ≤ t → ColumnsFit f lengths t → 2 * most < t
   narrowed_out most low high n past t even two fits = omega (arith, no_smaller low n.below t even two fits)
 
 -- ---- the longest symbol of a blob, by its half
 
+-- cells of an even size take more than the most, if half of it is above most / (2 * cells)
 pub most_half : (cells most t : ℕ) → 0 < cells → 2 * (most / (2 * cells)) < t → t % 2 ≡ 0 → most < cells * t
 most_half cells most t some longer even =
     let whole : t ≡ 2 * (t / 2) = omega arith in
@@ -174,6 +180,7 @@ some_room f lengths few =
     let each = sum_by-le (columns_for size) 1 lengths (λ i d h. one (get_or lengths i d) (omega (arith, part i d h))) in
     (before, omega (arith, one (index_bytes (length lengths)) (omega arith), each))
 
+-- some size is that of the bundle of at most 2 * f members
 pub some_least : (f : ℕ) (lengths : List ℕ) → length lengths ≤ 2 * f → (s : ℕ) × IsBundleSize f lengths s
 some_least f lengths few = let room = some_room f lengths few in least_below f lengths room.0 room.1
 

@@ -197,6 +197,7 @@ four_bytes f long shape = omega (arith, mul-le-mul_left (row_count f) (symbol_si
 
 -- ---- what the payloads' metadata are
 
+-- if the payloads have one metadata, what is found in them cannot be but one
 pub not_one : (digest : List ℕ → List ℕ) (id : List ℕ) (payloads : List (List ℕ)) (found : FoundMetadata) (m : BlobMetadata) → Finds digest id payloads found
     → IsMetadataIn digest id payloads m → ((one : MetaRef) → found ≡ One one → ⊥) → ⊥
 not_one digest id payloads Absent m finds one other = finds m one.0

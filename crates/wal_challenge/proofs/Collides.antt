@@ -5,6 +5,7 @@ use Rattle.wal_tree.specs.Digests.{IsByte}
 use Rattle.wal_matrix.proofs.Codewords.{bytes_of_part}
 use Rattle.wal_matrix.proofs.MatrixLaws.{bytes_within}
 
+-- a false claim about a blob gives two texts of one digest
 pub false_collides : (digest : List ℕ → List ℕ) → IsDigest digest → (shape : BlobShape) (bytes : List ℕ) (claim : Claim) → shape.f ≤ 333 → length bytes ≡ shape.length
     → IsFalseClaim digest shape bytes claim → All IsByte claim.opening.symbol → All IsByte claim.opening.path → CanCollide digest
 unfolding metadata_over

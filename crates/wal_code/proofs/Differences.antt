@@ -7,9 +7,11 @@ use Rattle.wal_code.proofs.Points.{point_at}
 abbrev pub other : ℕ → ℕ → ℕ → ℕ
 other p w q = cond (eqb p q) 1 (bit_xor w q)
 
+-- the point p itself gives 1
 pub other-same : (p w q : ℕ) → p ≡ q → other p w q ≡ 1
 other-same p w q e = rw (eq-eqb p q e)
 
+-- another point gives the sum of the two words
 pub other-other : (p w q : ℕ) → p ≢ q → other p w q ≡ bit_xor w q
 other-other p w q n = rw (ne_eqb p q n)
 

@@ -14,6 +14,7 @@ pub head_is : (m : BlobMetadata) (k : ℕ) → k ≡ length (format_text m.forma
 head_is m k e =
     ap (take k) (metadata_text-parts m) ∙ take_at (head_text m.format m.f m.length) (held_pairs m) k (length-head m.format m.f m.length ∙ sym e)
 
+-- behind the format and ten bytes, metadata has the text of its pairs
 pub pairs_are : (m : BlobMetadata) (k : ℕ) → k ≡ length (format_text m.format) + 10 → drop k (metadata_text m) ≡ held_pairs m
 pairs_are m k e =
     ap (drop k) (metadata_text-parts m) ∙ drop_at (head_text m.format m.f m.length) (held_pairs m) k (length-head m.format m.f m.length ∙ sym e)

@@ -27,6 +27,7 @@ bytes_before [] ys are i = omega arith
 bytes_before (x ∷ xs) ys are zero = are zero
 bytes_before (x ∷ xs) ys are (suc i) = bytes_before xs ys (λ j. are (suc j)) i
 
+-- a byte in front of bytes makes bytes
 pub byte_first : (x : ℕ) (xs : List ℕ) → x < 256 → AreBytes xs → AreBytes (x ∷ xs)
 byte_first x xs small are zero = small
 byte_first x xs small are (suc i) = are i
@@ -47,6 +48,7 @@ pub record IsOneToOne (digest : List ℕ → List ℕ) : Type 0 where
   pub one : (x y : List ℕ) → All IsByte x → All IsByte y → digest x ≡ digest y → x ≡ y
 
 module _ (digest : List ℕ → List ℕ) (is : IsDigest digest) where
+  -- a digest of bytes is 32 bytes
   pub is_32 : (text : List ℕ) → AreBytes text → Is32 (digest text)
   is_32 text are = record { size = is.size text; bytes = bytes_of_all (digest text) (is.bytes text (all_bytes text are)) }
 

@@ -21,6 +21,7 @@ module _ {X Y : Type 0} (Gives : X → Y → Type 0) (key : Y → ℕ) (most : �
   full_after before [] full = refl
   full_after before (x ∷ items) full = (before, keeps (λ y short gives. absurd (omega arith)) refl, full_after before items full)
 
+  -- if as many are taken as may be, more items change nothing
   pub full_more : (items more : List X) (taken : List Y) → most ≤ length taken → TakesFirst Gives key most items taken
       → TakesFirst Gives key most (items ++ more) taken
   full_more items more taken full takes = takes_append [] items more taken taken takes (full_after taken more full)

@@ -23,6 +23,7 @@ pub one_verdict : (digest : List ℕ → List ℕ) (m : BlobMetadata) (blob : Li
     → IsVerdictOn digest m blob a → IsVerdictOn digest m blob b → a ≡ b
 one_verdict digest m blob a b is_a is_b = grind arith
 
+-- whoever judges these slivers gives the verdict on the blob of their only source
 pub only_verdict : (digest : List ℕ → List ℕ) (m : BlobMetadata) (shape : BlobShape) (indices joined block blob : List ℕ) (verdict other : Verdict)
     → shape ≡ shape_of m → IsOnlySource shape indices joined block → blob ≡ take shape.length block
     → IsVerdictOn digest m blob verdict → Judges digest m indices joined other → other ≡ verdict

@@ -157,6 +157,7 @@ all_codewords words end known total size old new all even h w below =
     (IsCodeword-same known total (λ i. word_at new (words * i + w)) (λ i. word_at (region (2 * words) new i) w)
     (λ i l. word_at-region words i w new low) (h.codewords w (omega arith) (omega arith)))
 
+-- a whole extended strip leaves the known regions as they were
 pub first_same : (words end known total size : ℕ) (old new : List ℕ) → size ≡ 2 * words → known ≤ total → length old ≡ total * size → length new ≡ length old
     → IsExtendedStrip words 0 end known total old new → take (known * size) new ≡ take (known * size) old
 first_same words end known total size old new even fewer long same h =

@@ -16,6 +16,7 @@ ended_not frame b rest =
     let left : eqb (length (b ∷ rest)) 0 ≡ false = ne_eqb (length (b ∷ rest)) 0 (λ e. absurd (omega (arith, e))) in
     rw left refl
 
+-- what ended well is the frame itself, with no bytes left
 pub ended_ok : {A : Type 0} (frame : A) (rest : List ℕ) (x : A) → ended frame rest ≡ Ok x → (frame ≡ x) × (rest ≡ [])
 ended_ok frame [] x e = (ok_is frame x e, refl)
 ended_ok frame (b ∷ rest) x e = absurd (let two : Ok x ≡ Err Trailing = sym e ∙ ended_not frame b rest in cc)
@@ -73,6 +74,7 @@ byte place most lt = seen (number wide8 place most lt) (λ n. n) (λ n. n) (λ n
     (λ n le. (le, byte_spelled most lt n le)) (λ n le. (le, byte_spelled most lt n le, refl))
 
 module _ (n place : ℕ) where
+  -- n bytes are read as they stand
   pub bytes_are : IsReader IsPlaceBelow (λ r. length r ≡ n) (λ r. r) place (bytes_at n)
   bytes_are bytes = framed bytes (run_at n bytes) (run_reads n place bytes)
 

@@ -68,6 +68,7 @@ module _ {A X : Type 0} (c : Codec IsPlaceBelow A) (parts : A → X) (frame : X 
       outcome_of kind (λ x. frame (parts x)) spells first bytes (made frame (c.read X bytes (ending parts)))
       (made_of bytes (c.read X bytes (ending parts)) (c.is X bytes (ending parts)))
 
+  -- a frame made of the text of its parts and a rest is that frame, if the rest ends it
   pub made_again : (x : A) (rest : List ℕ) → c.Fits x
       → made frame (c.read X (c.text x ++ rest) (ending parts)) ≡ ended (frame (parts x)) rest
   made_again x rest h = rw (c.again X (ending parts) x rest h) (made_ended frame (parts x) rest)
@@ -186,11 +187,13 @@ openings n place = record {
 
 -- ---- a loop over bodies
 
+-- with bodies to come, the next opening is read and then those behind it
 pub bodies_next : (count i place : ℕ) (bytes : List ℕ) (r : Result (single.Opening × List ℕ) FrameError) → i < count
     → opening_at place bytes ≡ r → bodies_at (count - i) place bytes ≡ (r >>= after_one (count - (i + 1)) place)
 unfolding bodies_at
 bodies_next count i place bytes r lt e = let k : count - i ≡ suc (count - (i + 1)) = omega arith in rw (k, e)
 
+-- with no bodies to come, nothing is read
 pub bodies_done : (count i place : ℕ) (bytes : List ℕ) → count ≤ i → bodies_at (count - i) place bytes ≡ Ok bytes
 unfolding bodies_at
 bodies_done count i place bytes le = let k : count - i ≡ 0 = omega arith in rw k
@@ -248,6 +251,7 @@ proof_read bytes t numbers count bodies end fits e1 e2 e3 none =
     let p = proof_of_target t count bodies in
     (is.fits.1, sym (ap (drop 33) (is.spelled fits) ∙ drop_at t.id.0 (proof_text p) 32 is.fits.0))
 
+-- the text of a proof is read as this proof, if what is behind it ends the frame
 pub proof_behind : (t : Target) (os : List single.Opening) (rest : List ℕ) → IsId t.id.0
     → IsProof (proof_with t.axis t.index os)
     → proof_at (t.id.0 ++ proof_text (proof_with t.axis t.index os) ++ rest)

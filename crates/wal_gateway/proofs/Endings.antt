@@ -109,6 +109,7 @@ module _ (digest : List ℕ → List ℕ) (old : Cache) (get : Get) where
   leaves_none (read.Bytes bytes) other = absurd (other bytes refl)
   leaves_none outcome other = refl
 
+  -- a get that finds nothing kept, and no bytes, answers its outcome and leaves the cache
   pub ends_none : (outcome : Outcome) (answer : GetAnswer) → kept_blob old get.id ≡ None → IsOutcome digest get.id.0 get.payloads outcome
       → IsOnlyOutcome digest get.id.0 get.payloads outcome → ((bytes : List ℕ) → outcome ≡ read.Bytes bytes → ⊥)
       → answer ≡ record { hit = false; found = found_of get.from get.size outcome } → EndsGet digest old get (Ok answer) old
@@ -122,16 +123,19 @@ module _ (digest : List ℕ → List ℕ) (old : Cache) (get : Get) where
   ends_hits (Ok answer) new ends = hit_of answer new (kept_blob old get.id) ends.0
   ends_hits (Err e) new ends = tt
 
+  -- with the answer of this get, all gets so far have their answers
   pub ends_all : (result : Result GetAnswer AllocError) (new : Cache) → EndsGet digest old get result new → (start : Cache) (gets : List Get) (answers : List GetAnswer)
       → AnswersAll digest start gets answers old → IfOk result (λ answer. AnswersAll digest start (gets ++ get ∷ []) (answers ++ answer ∷ []) new)
   ends_all (Ok answer) new ends start gets answers all = answered_more digest start gets answers old get answer new all ends.0
   ends_all (Err e) new ends start gets answers all = tt
 
+  -- with the answer of this get, the answers so far are the only ones
   pub ends_only : (result : Result GetAnswer AllocError) (new : Cache) → EndsGet digest old get result new → (start : Cache) (gets : List Get) (answers : List GetAnswer)
       → AreOnlyAnswers digest start gets answers old → IfOk result (λ answer. AreOnlyAnswers digest start (gets ++ get ∷ []) (answers ++ answer ∷ []) new)
   ends_only (Ok answer) new ends start gets answers all = only_more digest start gets answers old get answer new all ends.1
   ends_only (Err e) new ends start gets answers all = tt
 
+  -- an answer that is a hit is that of a fresh read, or what is kept is contradicted
   pub ends_fresh : (result : Result GetAnswer AllocError) (new : Cache) → EndsGet digest old get result new
       → IfOk result (λ answer. answer.hit ≡ true → IsFreshOrContrary digest new get answer)
   ends_fresh (Ok answer) new ends = hit_fresh digest old get answer new ends.0

@@ -70,6 +70,7 @@ before_rest stream before rest parts =
     let count : length stream - length rest ≡ length before = omega (arith, long) in
     ap (λ n. take n stream) count ∙ ap (take (length before)) parts ∙ take_at before rest (length before) refl
 
+-- what was passed is the stream but for its rest
 pub passes_taken : (stream before rest : List ℕ) → Passes stream before rest
     → Passes stream (take (length stream - length rest) stream) rest
 passes_taken stream before rest passes = rw (before_rest stream before rest passes.parts) passes
@@ -90,6 +91,7 @@ module _ (stream before rest : List ℕ) (passes : Passes stream before rest) (s
         (one.0, one.2, back.2 ∙ ap (gets_in passes.front) one.1 ∙ gets_next passes.front one.0 payload None none);
   }
 
+  -- what stands before and behind the envelope is shorter than the stream
   pub asks_shorter : length before + length later < length stream
   asks_shorter =
       omega (arith, ap length passes.parts, length-append before rest, ap length begins, length-append payload later)

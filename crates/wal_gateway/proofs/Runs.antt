@@ -46,6 +46,7 @@ module _ (digest : List ℕ → List ℕ) where
   same_more (o ∷ others) (a ∷ answers) other answer all one = (all.0, same_more others answers other answer all.1 one)
   same_more others answers other answer all one = absurd all
 
+  -- with one more only answer, the answers of a run are the only ones
   pub only_more : (start : Cache) (gets : List Get) (answers : List GetAnswer) (old : Cache) (get : Get) (answer : GetAnswer) (new : Cache) → AreOnlyAnswers digest start gets answers old
       → IsOnlyAnswer digest old get answer new → AreOnlyAnswers digest start (gets ++ get ∷ []) (answers ++ answer ∷ []) new
   only_more start gets answers old get answer new all one others left answered =

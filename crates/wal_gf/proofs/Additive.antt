@@ -51,6 +51,7 @@ xor_below-additive (suc n) f keeps a b =
 
 -- ---- functions that keep sums, and are equal at the powers of x
 
+-- a number is the sum of its bits from n on and of those below
 pub top_split : (n a : ℕ) → a ≡ bit_xor (a / 2 ^ n * 2 ^ n) (a % 2 ^ n)
 top_split n a =
     sym (div-add-mod' a (2 ^ n))

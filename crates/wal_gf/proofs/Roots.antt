@@ -49,6 +49,7 @@ same_coefficients cs ds ps lows lows' lows'' same few pairs agree =
     (agreed cs ds ps cs' ds' ps' (recursion_from_All (λ p. evaluate cs p ≡ evaluate ds p) ps agree)) in
     sym (numbers_of-elements cs cs') ∙ ap numbers_of path ∙ numbers_of-elements ds ds'
 
+-- a nonzero polynomial has fewer roots than coefficients
 pub few_roots : HasFewRoots
 few_roots cs rs lows lows' pairs zeros few =
     let none : All IsWord (replicate (length cs) 0) = All-replicate IsWord (length cs) 0 (lit< tt) in

@@ -126,12 +126,14 @@ module _ (now : List ℕ) (tail : ℕ) (h : Head) (id : BlobId) (old new : Conte
     put_whole : IsWholeRecord (Put id part bytes)
     put_whole = omega (arith, ap (λ (b : BlobId). length b.0) is.1, long, put_long, is.4, is.5)
 
+    -- a put of a part that was not held is the next step, and the keep had room for it
     pub put_step : (limit : Option ℕ) → part_at old id part ≡ None → new ≡ after_call old (Put id part bytes) → HasRoom (free_of limit old) (needed_for old id bytes)
         → (n : IsNext now tail (tail + 39 + h.size) old new) × HadRoomForPuts limit old (n.change ∷ [])
     put_step limit absent makes room =
         next_step limit (tail + 39 + h.size) (Put id part bytes) put_has read_is refl put_whole
         (absent, put_whole.1, put_whole.2) makes (room, tt)
 
+    -- a put that the keep refuses changes nothing, and ends the steps by the fault of its error
     pub put_full : (limit : Option ℕ) (may_want : Bool) (e : KeepError) → part_at old id part ≡ None → IsPutAnswer limit may_want old id bytes (Err e) → new ≡ old → Steps limit may_want now tail old new (Err (fault_of e))
     put_full limit may_want (keeps.Full needed free) absent answer same = (
       gate,
@@ -212,6 +214,7 @@ module _ {now text : List ℕ} {tail : ℕ} {contents : Contents} (c : Call) (so
     text_is = text_is;
   }
 
+  -- contents after the change are what some change that is ready makes
   pub with_one : (after : Contents) → after ≡ after_call contents c → ∥ WithOne now tail text after ∥₁
   with_one after made =
       ∥∥₁_map some (λ j.
@@ -246,6 +249,7 @@ pub with_room : (limit : Option ℕ) (held : Contents) (c : Call) {changes : Lis
 with_room limit held c room (inl without) = inl without
 with_room limit held c room (inr with_it) = inr (room, with_it)
 
+-- a change has happened or not, whatever is known of room
 pub either_of : (limit : Option ℕ) (held : Contents) (c : Call) {changes : List Call} {image : List ℕ}
     → FitsEitherWay limit held changes c image → EitherWay changes c image
 either_of limit held c (inl without) = inl without
@@ -303,6 +307,7 @@ only_span c text old new tail is only =
     let one : 1 + length text ≡ span (c ∷ []) = omega (arith, length-record c text is) in rw one at only
 
 module _ {D K : Type 0} {d : _} {k : _} (now : D → List ℕ) (faults : D → ℕ) (contents : K → Contents) (limit : K → Option ℕ) where
+  -- a change ends as its writing did: written with the keep, or stopped
   pub ends_of : (is_why : Why → Type 0) (old : Journal D K d k) (c : Call) {text : List ℕ} (keep : K)
       (result : Result (Journal D K d k) (ChangeRefusal D K d k)) → HasSome (now old.disk) old.tail (contents old.keep)
       → IsWholeRecord c → IsLawfulCall (contents old.keep) c → text ≡ spelling c ++ 0 ∷ []

@@ -47,6 +47,7 @@ front_same at n bytes image agrees =
     let lt : k < at = omega (arith, within, length-take at image) in
     get_or-take at image k 0 lt ∙ agrees.outside k (λ is. grind arith) ∙ sym (get_or-take at bytes k 0 lt))
 
+-- an image that agrees but for one place has the same bytes behind this place
 pub back_same : (at n : ℕ) (bytes image : List ℕ) → Agrees ((at, n) ∷ []) bytes image → drop (at + n) image ≡ drop (at + n) bytes
 back_same at n bytes image agrees =
     ext_get_or 0 (drop (at + n) image) (drop (at + n) bytes) (omega (arith, length-drop (at + n) image, length-drop (at + n) bytes, agrees.long)) (λ k within.

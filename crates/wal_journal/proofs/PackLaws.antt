@@ -43,9 +43,11 @@ puts_next digest held now items i payload within at is =
 -- ---- what a crash leaves
 
 module _ (limit : Option ℕ) {held : Contents} where
+  -- an image of these changes accepts a prefix of any puts behind them, the empty one
   pub front_none : {changes puts : List Call} {image : List ℕ} → Accepts image changes → AcceptsFront limit held changes puts image
   front_none {puts = puts} accepts = ([], puts, refl, tt, rw append-nil accepts)
 
+  -- an image in which a change has happened or not accepts a prefix of this one change
   pub front_one : {changes : List Call} {c : Call} {image : List ℕ} → FitsEitherWay limit held changes c image → AcceptsFront limit held changes (c ∷ []) image
   front_one (inl without) = front_none without
   front_one {c = c} (inr with_it) = (c ∷ [], [], refl, with_it.0, with_it.1)
@@ -69,6 +71,7 @@ module _ (limit : Option ℕ) {held : Contents} where
         rw (← append_assoc changes a front.0) front.4,
       )))
 
+-- what two changes in turn keep, both together keep
 pub keeps_both : {D : Type 0} {clock : D → ℕ} {since : D → ℕ → List ℕ → Type 0}
     → ((disk : D) (image : List ℕ) (t later : ℕ) → t ≤ later → since disk later image → since disk t image)
     → {old mid new : D} → Keeps clock since old mid → Keeps clock since mid new → Keeps clock since old new
@@ -102,6 +105,7 @@ rose_on : (first mid last : ℕ) → first ≤ mid → Rose mid last → Rose fi
 rose_on first mid last later rose = grind arith
 
 module _ {D K : Type 0} {d : _} {k : _} {now : D → List ℕ} {contents : K → Contents} {limit : K → Option ℕ} where
+  -- with the same disk, tail, contents and limit, no call was taken
   pub takes_kept : {old new : Journal D K d k} → new.disk ≡ old.disk → new.tail ≡ old.tail → contents new.keep ≡ contents old.keep → limit new.keep ≡ limit old.keep → Takes now contents limit old [] new
   takes_kept {old} {new} disk tail held most = record {
     accepts = λ changes accepts. rw (append-nil, disk) accepts;
@@ -114,6 +118,7 @@ module _ {D K : Type 0} {d : _} {k : _} {now : D → List ℕ} {contents : K →
     only = rw disk (agrees_same ((old.tail, 0) ∷ []) (now old.disk));
   }
 
+  -- the calls that two changes take in turn, both together take
   pub takes_both : {old mid new : Journal D K d k} {a b : List Call} → Takes now contents limit old a mid → Takes now contents limit mid b new → Takes now contents limit old (a ++ b) new
   takes_both {old} {mid} {new} {a} {b} first second = record {
     accepts =

@@ -4,6 +4,7 @@ use Rattle.std.proofs.Math.Nat.{mul-le-mul_right}
 use Rattle.wal_journal.specs.declared.mem_disk.Step.{Step}
 use Rattle.wal_journal.specs.MemDisk.{pending_after, kept_at, LeftSince}
 
+-- a write as the last step is pending, beside what was pending before it
 pub pending_push : (pending : List (ℕ × ℕ)) (steps : List Step) (at n : ℕ) → pending_after pending (steps ++ Written at n ∷ []) ≡ (at, n) ∷ pending_after pending steps
 pending_push pending [] at n = refl
 pending_push pending (Written a m ∷ steps) at n = pending_push ((a, m) ∷ pending) steps at n

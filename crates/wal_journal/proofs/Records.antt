@@ -37,6 +37,7 @@ parts_once k l p q m n i j r s long small less same =
     let sizes = split_same (size_text m) (size_text n) r s (size_long m ∙ sym (size_long n)) cc in
     (cc, ids.0, cc, size_once m n small less sizes.0, sizes.1)
 
+-- the byte of a part tells which part it is
 pub part_once : (a b : Part) → part_byte a ≡ part_byte b → a ≡ b
 part_once a b same = grind arith
 
@@ -117,6 +118,7 @@ module _ (May : Contents → Call → Type 0) (All : Contents → List Call → 
       let rest = one_end (after_call held c) a b g h r s wa.1 wb.1 (parts held c a la).1 there.0 ends there.1 first.1 in
       (cc, rest.1)
 
+-- in one image stand no two lists of changes
 pub stands_once : (image : List ℕ) (changes others : List Call) → Stands image changes → Stands image others → changes ≡ others
 stands_once image changes others a b =
     (one_end (λ held c. ⊤) (λ held l. ⊤) (λ held c more all. (tt, tt)) no_contents changes others a.gate b.gate
@@ -259,6 +261,7 @@ torn_only tail text old image fits (inr torn) =
     agrees_trans (agrees_wider (omega arith) (omega arith) (put_agrees (tail + 1) text old _ fits refl))
     (agrees_wider (omega arith) (omega arith) torn)
 
+-- a text behind the byte 1, put at the tail, changes no other place
 pub append_only : (tail : ℕ) (text old new : List ℕ) → tail + 1 + length text ≤ length old
     → new ≡ put_at tail (1 ∷ []) (put_at (tail + 1) text old) → Agrees ((tail, 1 + length text) ∷ []) old new
 append_only tail text old new fits written =

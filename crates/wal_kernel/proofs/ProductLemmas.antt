@@ -103,6 +103,7 @@ reduced n a b = xor_mod a b n
 pub first_of : IsAdditive (λ w. w / 256)
 first_of = divided 8
 
+-- the low byte of a sum is the sum of the low bytes
 pub second_of : IsAdditive (λ w. w % 256)
 second_of = reduced 8
 
@@ -224,6 +225,7 @@ module _ (c block : ℕ) (source high low v : List ℕ) (bytes : (k : ℕ) → s
   byte_low : (k : ℕ) → k < 32 → slice_index low k < 256
   byte_low k l = omega (arith, lows.each k l, bytes (64 * block + 2 * word_of_lane k + 1))
 
+  -- lanes of the sums for the high bytes hold the first byte of each scaled word of the block
   pub block_high : HasLanes 32 v (λ k. nibble_sum (nibble (λ w. w / 256) (times c 4096)) (nibble (λ w. w / 256) (times c 256)) (nibble (λ w. w / 256) (times c 16)) (nibble (λ w. w / 256) c) (slice_index high k) (slice_index low k))
       → HasLanes 32 v (λ k. scaled_byte c source (64 * block + 2 * word_of_lane k))
   block_high h = HasLanes-same 32 v _ _ h (λ k l.
@@ -231,6 +233,7 @@ module _ (c block : ℕ) (source high low v : List ℕ) (bytes : (k : ℕ) → s
       byte_of (λ w. w / 256) first_of c (slice_index high k) (slice_index low k) (byte_high k l) (byte_low k l)
       ∙ ap (λ (w : ℕ). times c w / 256) (word_here k l) ∙ sym (scaled_byte-high c source (32 * block + word_of_lane k)) ∙ ap (λ j. scaled_byte c source j) place)
 
+  -- lanes of the sums for the low bytes hold the second byte of each scaled word of the block
   pub block_low : HasLanes 32 v (λ k. nibble_sum (nibble (λ w. w % 256) (times c 4096)) (nibble (λ w. w % 256) (times c 256)) (nibble (λ w. w % 256) (times c 16)) (nibble (λ w. w % 256) c) (slice_index high k) (slice_index low k))
       → HasLanes 32 v (λ k. scaled_byte c source (64 * block + 2 * word_of_lane k + 1))
   block_low h = HasLanes-same 32 v _ _ h (λ k l.

@@ -55,6 +55,7 @@ taken_all k prefix seen long piece strip group whole r edge all same held is end
     end (prefix ∷ piece) (rw same held.next)
     (rw count at (hash_on k prefix seen long piece strip group whole edge (omega arith) (same ∙ sym all_of) held is))
 
+-- setting one group leaves the others
 pub other_group : (groups : List Group) (i k : ℕ) (x : Group) → k ≢ i → slice_get (slice_set groups i x) k ≡ slice_get groups k
 other_group [] i k x other = refl
 other_group (y ∷ ys) zero zero x other = absurd (other refl)

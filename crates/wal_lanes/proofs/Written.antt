@@ -19,9 +19,11 @@ word_put at n old new h ys i held is next room =
     rw (put_put at n old new (digest_bytes h i) ys held (omega arith) (omega arith), is, add-one)
 
 module _ (digest : List ℕ → List ℕ) (prefix size : ℕ) (content : List ℕ) where
+  -- bytes of the right length have the first 0 digests right
   pub are_none : (digests : List ℕ) → length digests ≡ length content / size * 32 → AreDigests digest prefix size content 0 digests
   are_none digests long = record { long = long; each = λ place l. absurd (omega arith) }
 
+  -- if many digests are right, so are the fewer first ones
   pub are_fewer : (digests : List ℕ) (few many : ℕ) → few ≤ many → AreDigests digest prefix size content many digests → AreDigests digest prefix size content few digests
   are_fewer digests few many less are = record { long = are.long; each = λ place l. are.each place (omega arith) }
 

@@ -38,6 +38,7 @@ own_from : (P : Entry → Type 0) (id : BlobId) (c : History) (xs : List Entry) 
 own_from P id c [] all rest = all
 own_from P id c (x ∷ xs) all rest = own_from P id (history_after id c x) xs (history_after-own P id c x all (All-head P x xs rest)) (All-tail P x xs rest)
 
+-- what holds of all entries holds of those of one identifier
 pub own_all : (P : Entry → Type 0) (first : ℕ) (id : BlobId) (xs own : List Entry) → own ≡ (history_of first xs id).own → All P xs → All P own
 own_all P first id xs own same all = subst (All P) (sym same) (own_from P id (record { epoch = first; own = [] }) xs (All-nil P) all)
 

@@ -31,6 +31,7 @@ phase_after-plain b x p plain = grind arith
 pub phase_plain : (log : Log) (b : Body) → is_plain b ≡ true → phase (entered log b) ≡ record (phase log) { since = (phase log).since ++ entry_in log b ∷ [] }
 phase_plain log b plain = phase_push log.entries (entry_in log b) ∙ phase_after-plain b (entry_in log b) (phase log) plain
 
+-- a plain entry leaves the epoch, the owners and the ledger before the last Begin
 pub plain_stays : (log : Log) (b : Body) → is_plain b ≡ true → StaysAs log (entered log b)
 plain_stays log b plain =
     let e = phase_plain log b plain in
@@ -103,6 +104,7 @@ signs_new : (log : Log) (b : Body) (id : BlobId) (kind : Kind) (e s : ℕ) (owne
 signs_new log b id kind e s owners n signs =
     record { named = n; now = grind (arith, nat_tests); signed = grind (arith, nat_tests) }
 
+-- who signed by now signed before this entry, or signs by it
 pub signed_cases : (log : Log) (b : Body) (id : BlobId) (kind : Kind) (e s : ℕ) (owners : List ℕ) (own : List Entry) → is_signer_among owners own kind e s ≡ true → Owned log b id own
     → SignedBefore log b id kind e s owners ⊎ SignsNow log b id kind e s owners
 signed_cases log b id kind e s owners own signed (stays is n) =

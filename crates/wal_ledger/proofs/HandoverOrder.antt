@@ -97,6 +97,7 @@ register_enters log id until orderly may =
     still m i l lt named (Owned.grows is n stands) = named n
     still m i l lt named (Owned.anew is n r le) = named n
 
+-- the entry of a claim is plain, and registers nothing
 pub claim_plain : (kind : Kind) (s : ℕ) (id : BlobId) → (is_plain (claim_of kind s id) ≡ true) × (is_register (claim_of kind s id) ≡ false)
 claim_plain kind s id = grind arith
 
@@ -109,6 +110,7 @@ pub record IsClaim (s : ℕ) (id : BlobId) (b : Body) : Type 0 where
   pub own : (w : ℕ) (q : BlobId) (c : History) → let x : Entry = record { epoch = w; body = b } in
       (history_after q c x).own ≡ cond (id_eq id q) (c.own ++ x ∷ []) c.own
 
+-- the entry that is made for a claim is one of this shard and identifier
 pub is_claim : (kind : Kind) (s : ℕ) (id : BlobId) → IsClaim s id (claim_of kind s id)
 is_claim Holds s id = let same = λ (i : BlobId) (h : id_eq id i ≡ true). sym (id_same id i h) in assumption
 is_claim Denies s id = let same = λ (i : BlobId) (h : id_eq id i ≡ true). sym (id_same id i h) in assumption

@@ -37,6 +37,7 @@ module _ {K : Type 0} {R : K → K → Ordering} (o : IsTotalOrder R) where
       ap (λ l. x ∷ l) (insert_key_gap xs i k (omega arith) (λ j d lt. below (suc j) d (omega arith)) (λ j d ge lt. above (suc j) d (omega arith) (omega arith)))
       ∙ sym (insert_key_by x k xs Greater (back x k Less (below 0 x (omega arith))))
 
+  -- what is below the first key is below all keys above that one
   pub all_above : (x k : K) (ks : List K) → R k x ≡ Less → AllByRecursion (λ y. R x y ≡ Less) ks → AllByRecursion (λ y. R k y ≡ Less) ks
   all_above x k [] h all = tt
   all_above x k (y ∷ ys) h all = (o.trans k x y h all.0, all_above x k ys h all.1)

@@ -121,6 +121,7 @@ owners_in first start p epoch = slice_index_or (start ∷ p.brought) (epoch - fi
 pub brought_before : (os : List (List ℕ)) (o : List ℕ) (k : ℕ) → k < length os → slice_index_or (os ++ o ∷ []) k [] ≡ slice_index_or os k []
 brought_before os o k lt = get_or_append_left os (o ∷ []) [] k lt
 
+-- behind k lists of owners, the one that is brought last is the list of number k
 pub brought_last : (os : List (List ℕ)) (o : List ℕ) (k : ℕ) → length os ≡ k → slice_index_or (os ++ o ∷ []) k [] ≡ o
 brought_last os o k at = subst (λ (n : ℕ). slice_index_or (os ++ o ∷ []) n [] ≡ o) at (get_or-append_seam os o [] [])
 

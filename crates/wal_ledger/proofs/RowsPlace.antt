@@ -11,6 +11,7 @@ exact_ids a b h = ap (λ (l : List ℕ). record { 0 = l }) (slice_cmp-IsAntisymm
 pub id_tied : (a b : BlobId) (r : Ordering) → id_cmp a b ≡ r → id_eq a b ≡ is_eq r
 id_tied a b r h = texts_ties a.0 b.0 ∙ ap is_eq h
 
+-- an identifier equals itself
 pub id_itself : (a : BlobId) → id_eq a a ≡ true
 id_itself a = id_tied a a Equal (tied_itself ids_total a)
 
@@ -29,6 +30,7 @@ place_found ids id place ascends lt at =
       stays = insert_key_found ids_total ids place id ascends lt at;
     }
 
+-- a new identifier goes between those that are less and those that are greater
 pub place_missed : (ids : List BlobId) (id : BlobId) (place : ℕ) → place ≤ length ids → ((j : ℕ) (d : BlobId) → j < place → id_cmp (get_or ids j d) id ≡ Less)
     → ((j : ℕ) (d : BlobId) → place ≤ j → j < length ids → id_cmp (get_or ids j d) id ≡ Greater) → IsInsertionPoint ids id place
 place_missed ids id place le below above = record {

@@ -175,6 +175,7 @@ pub count_below-most : (n : ℕ) (p : ℕ → Bool) → count_below n p ≤ n
 count_below-most zero p = omega arith
 count_below-most (suc n) p = grind (arith, nat_tests, count_below-most n p)
 
+-- a tally counts at most the shards of a committee
 pub tally_most : (f : ℕ) (owners : ℕ → List ℕ) (own : List Entry) (kind : Kind) (entries : List Entry) (links : List ℕ) (t : Tally) → IsTally f owners own kind entries links t → t.count ≤ committee_size f
 tally_most f owners own kind entries links t i = omega (arith, i.counted, count_below-most (committee_size f) (is_signer_among (owners t.epoch) own kind t.epoch))
 

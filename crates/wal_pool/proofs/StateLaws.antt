@@ -65,12 +65,14 @@ next-link size r k h large room fits =
 pub absent_parts : (k x : ℕ) (xs : List ℕ) → has k (x ∷ xs) ≡ false → (k ≢ x) × (has k xs ≡ false)
 absent_parts k x xs absent = let parts = or_parts (nat_eq k x) (has k xs) absent in (eqb-false k x parts.0, parts.1)
 
+-- a chain stays if only the link of a page changes that is not on it
 pub chain-same : (size : ℕ) (r s : List ℕ) (k n h : ℕ) → ((j : ℕ) → j ≢ k → next size s j ≡ next size r j) → has k (chain size r n h) ≡ false → chain size s n h ≡ chain size r n h
 chain-same size r s k zero h same absent = refl
 chain-same size r s k (suc n) h same absent =
     let parts = absent_parts k h (chain size r n (next size r h)) absent in
     cc (same h (λ e. parts.0 (sym e)), chain-same size r s k n (next size r h) same parts.1)
 
+-- a chain of some pages is its first page and the chain from the next one
 pub chain-first : (size : ℕ) (r : List ℕ) (n m h : ℕ) → n ≡ suc m → chain size r n h ≡ h ∷ chain size r m (next size r h)
 chain-first size r n m h e = ap (λ i. chain size r i h) e
 
@@ -86,6 +88,7 @@ listed_parts pages k ks ok =
     let inner = and_parts (nat_lt k pages) (not (has k ks)) outer.0 in
     record { below = ltb-true k pages inner.0; absent = not-true (has k ks) inner.1; rest = outer.1 }
 
+-- a page that is not on the free list may come to its front
 pub listed_from : (pages k : ℕ) (ks : List ℕ) → k < pages → has k ks ≡ false → is_free_list pages ks ≡ true → is_free_list pages (k ∷ ks) ≡ true
 listed_from pages k ks below absent rest = grind (arith, nat_tests)
 
@@ -124,6 +127,7 @@ state_free size r ks k e = ap (λ b. cond b Free (Taken (page_of size r k))) e
 pub state_taken : (size : ℕ) (r ks : List ℕ) (k : ℕ) → has k ks ≡ false → state_of size r ks k ≡ Taken (page_of size r k)
 state_taken size r ks k e = ap (λ b. cond b Free (Taken (page_of size r k))) e
 
+-- a list has its first number
 pub has_first : (k : ℕ) (ks : List ℕ) → has k (k ∷ ks) ≡ true
 has_first k ks = let e = eq-eqb k k refl in grind arith
 
@@ -163,6 +167,7 @@ pub record Out (size pages : ℕ) (r ks : List ℕ) (k : ℕ) : Type 0 where
   pub absent : has k ks ≡ false
   pub bytes : page_bytes (states size pages r ks) k ≡ page_of size r k
 
+-- a page whose state is taken is in the region, and not on the list
 pub out_from : (size pages : ℕ) (r ks : List ℕ) (k : ℕ) → IsTakenPage (states size pages r ks) k → Out size pages r ks k
 out_from size pages r ks k taken =
     let lt : k < pages = omega (arith, slice_get_within (states size pages r ks) k _ taken, length-states size pages r ks) in
@@ -193,6 +198,7 @@ pub record Given (pages n : ℕ) (xs : List PageState) : Type 0 where
   pub free : (k : ℕ) → k < n → slice_get xs k ≡ Some Free
   pub taken : (k : ℕ) → n ≤ k → k < pages → IsTakenPage xs k
 
+-- with no page on the list, no page is free
 pub given_none : (size pages : ℕ) (r : List ℕ) → Given pages 0 (states size pages r [])
 given_none size pages r = record {
   long = length-states size pages r [];
@@ -200,6 +206,7 @@ given_none size pages r = record {
   taken = λ k ge lt. taken-states-none size pages r k lt;
 }
 
+-- if the page of this number is freed as well, one page more is free
 pub given_more : (pages n : ℕ) (xs ys : List PageState) → n < pages → Given pages n xs → ys ≡ slice_set xs n Free → Given pages (n + 1) ys
 given_more pages n xs ys lt given e = record {
   long = ap length e ∙ length-set xs n Free ∙ given.long;
@@ -212,6 +219,7 @@ given_more pages n xs ys lt given e = record {
       cc (slice_get-set_other xs n k Free other, given.taken k (omega arith) below);
 }
 
+-- if each page is below the number, the states are all Free
 pub given_all : (pages : ℕ) (xs : List PageState) → Given pages pages xs → xs ≡ replicate pages Free
 given_all pages xs given =
     same_lists xs (replicate pages Free) (given.long ∙ sym (length-replicate pages Free))

@@ -75,6 +75,7 @@ held_empty f faulty s id = at (range_with_len 0 (committee_size f)) s
     at (t ∷ ks) zero = nothing_at id
     at (t ∷ ks) (suc k) = at ks k
 
+-- where nobody holds anything, a shard has no parts
 pub held_nobody : (s : ℕ) (id : BlobId) → held nobody s id ≡ no_parts
 unfolding held
 held_nobody s id = nothing_at id
@@ -86,6 +87,7 @@ pub record Firmer (old new : Parts) : Type 0 where
   pub settles : settled old ≡ true → settled new ≡ true
   pub by_proof : has_proof old ≡ true → has_proof new ≡ true
 
+-- equal parts are as firm as each other
 pub firmer_same : (old new : Parts) → new ≡ old → Firmer old new
 firmer_same old new same = record { settles = λ h. ap settled same ∙ h; by_proof = λ h. ap has_proof same ∙ h }
 
@@ -116,6 +118,7 @@ pub record GrownFrom (r : Rules) (c d : Committee) : Type 0 where
 abbrev pub AreSound : Rules → Committee → Type 0
 AreSound r c = (s : ℕ) (id : BlobId) → r.IsSound id s (held c s id)
 
+-- a sound committee grew from itself
 pub grown_same : (r : Rules) (c : Committee) → AreSound r c → GrownFrom r c c
 grown_same r c sound = record { faulty = refl; size = refl; sound = sound; firmer = λ s id. firmer_same (held c s id) (held c s id) refl }
 

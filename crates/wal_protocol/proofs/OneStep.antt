@@ -184,12 +184,15 @@ module _ (r : Rules) (only : Only r) where
 
 -- ---- lines that end in a collision do not go on
 
+-- lines do not go on if the last of them is a collision
 pub not_going : (front : List Line) (said : Line) → GoesOn (front ++ said ∷ []) → is_collision said ≡ true → ⊥
 not_going [] said goes is = true≢false (sym is ∙ goes.0)
 not_going (one ∷ front) said goes is = not_going front said goes.1 is
 
+-- of lines that are the same up to a collision, the first ones do not go on
 pub apart_left : (xs ys : List Line) → SameUpToCollision xs ys → GoesOn xs → ⊥
 apart_left xs ys apart goes = not_going apart.front apart.one (subst GoesOn apart.ends goes) apart.collides
 
+-- of lines that are the same up to a collision, the second ones do not go on
 pub apart_right : (xs ys : List Line) → SameUpToCollision xs ys → GoesOn ys → ⊥
 apart_right xs ys apart goes = not_going apart.front apart.other (subst GoesOn apart.ends_too goes) apart.collides_too

@@ -6,6 +6,7 @@ pub goes_on_push : (lines : List Line) (said : Line) → GoesOn lines → is_col
 goes_on_push [] said all none = (none, tt)
 goes_on_push (first ∷ lines) said all none = (all.0, goes_on_push lines said all.1 none)
 
+-- a state behind all others is the last
 pub last_push : (old : World) (states : List World) (new : World) → last old (states ++ new ∷ []) ≡ new
 last_push old [] new = refl
 last_push old (next ∷ states) new = last_push next states new

@@ -11,15 +11,19 @@ envelope_same : (s t : ℕ) (p q a b : List ℕ) → IsPayload p → IsPayload q
 envelope_same s t p q a b fits other same =
     grind (arith, envelope_read (envelope s p ++ a) s p a fits refl, envelope_read (envelope s p ++ a) t q b other same)
 
+-- no whole envelope stands at the front of a part of one
 pub part_none : (bytes : List ℕ) → IsPart bytes → BeginsNone bytes
 part_none bytes part sender payload after fits same = grind arith
 
+-- no whole envelope stands at the front of wrong bytes
 pub wrong_none : (bytes : List ℕ) → IsWrong bytes → BeginsNone bytes
 wrong_none bytes wrong sender payload after fits same = grind arith
 
+-- wrong bytes are no part of an envelope
 pub wrong_part : (bytes : List ℕ) → IsWrong bytes → IsPart bytes → ⊥
 wrong_part bytes wrong part = grind arith
 
+-- bytes are cut into whole envelopes and a rest in one way
 pub one_cut : (ps qs : List (List ℕ)) (f g r s : List ℕ) → IsStream ps f → IsStream qs g → BeginsNone r → BeginsNone s → f ++ r ≡ g ++ s
     → (ps ≡ qs) × (length f ≡ length g) × (r ≡ s)
 one_cut [] [] f g r s hf hg nr ns e = (refl, cc, cc)
@@ -82,9 +86,11 @@ lacking_whole (b ∷ bytes) missing fits part long count more is =
 
 -- ---- what is kept
 
+-- if no bytes are missing, the rest is what is kept
 pub rest_kept : (digest : List ℕ → List ℕ) (id : List ℕ) (i : IntakeState) (payloads : List (List ℕ)) (rest : List ℕ) → KeepsPart digest id i payloads rest → i.missing ≡ 0 → rest ≡ i.kept
 rest_kept digest id i payloads rest keeps h = grind arith
 
+-- if bytes are missing, the rest is read past so far
 pub rest_past : (digest : List ℕ → List ℕ) (id : List ℕ) (i : IntakeState) (payloads : List (List ℕ)) (rest : List ℕ) → KeepsPart digest id i payloads rest → 0 < i.missing
     → ReadsPast digest id i.heard payloads i.missing rest
 rest_past digest id i payloads rest (kept none is) h = absurd (omega (arith, none, h))

@@ -46,10 +46,12 @@ past_parts digest id k payloads payload was fit long parts = (
   first_still digest id payloads payload k.metadata was.2,
 )
 
+-- if enough is known, a payload of more than 64012 bytes changes nothing
 pub past_enough : (digest : List ℕ → List ℕ) (id : List ℕ) (k : Known) (payloads : List (List ℕ)) (payload : List ℕ) → IsEnough k → HasKnown digest id k payloads
     → Bytewise payload → 64012 < length payload → HasKnown digest id k (payloads ++ payload ∷ [])
 past_enough digest id k payloads payload enough was fit long = past_parts digest id k payloads payload was fit long (parts_enough digest id k payloads payload enough)
 
+-- a payload longer than 64012 bytes and than any part changes nothing of what is known
 pub past_known : (digest : List ℕ → List ℕ) (id : List ℕ) (k : Known) (payloads : List (List ℕ)) (payload : List ℕ) → HasKnown digest id k payloads
     → Bytewise payload → 64012 < length payload → longest_part k.metadata < length payload → HasKnown digest id k (payloads ++ payload ∷ [])
 past_known digest id k payloads payload was fit long longer =

@@ -23,6 +23,7 @@ module _ (digest : List ℕ → List ℕ) (id : List ℕ) (payloads : List (List
       → HasMetadata digest id payloads b → a ≡ b
   no_two m a b one has_a has_b = one.1 a has_a ∙ sym (one.1 b has_b)
 
+  -- payloads that carry one metadata do not carry two
   pub not_two : (m a b : BlobMetadata) → IsMetadataIn digest id payloads m → AreFirstTwo digest id payloads a b → ⊥
   not_two m a b one two =
       let differ = first_two digest id payloads a b two in
@@ -95,6 +96,7 @@ module _ (digest : List ℕ → List ℕ) (id : List ℕ) (payloads : List (List
   few_come_to m indices joined has NoMetadata found = absurd (found m has.one.0)
   few_come_to m indices joined has (Collision clash) found = absurd (not_two m found.0 found.1 has.one found.2)
 
+  -- with few slivers and a bad proof, the only outcome is to reject
   pub only_refuted : (m : BlobMetadata) (indices joined : List ℕ) (p : EncodingProof)
       → HasFew digest id payloads m indices joined → IsFirstBadProof digest id m payloads p
       → IsOnlyOutcome digest id payloads Reject

@@ -10,6 +10,7 @@ use Rattle.wal_recover.specs.declared.outcome.Recovered.TheVariants.{Inconsisten
 use Rattle.wal_recover.proofs.OneTaking.{one_given}
 
 module _ (digest : List ℕ → List ℕ) (m : BlobMetadata) (axis : Axis) (index : ℕ) where
+  -- as many openings that hold as the sliver has symbols are enough
   pub enough : (taken : List Opening) → AreTaken (HoldsOpening digest m axis index) (λ o. o.cross) (sliver_symbols axis m.f) taken → length taken ≡ sliver_symbols axis m.f
       → AreEnough digest m axis index taken
   enough taken are count = record { count = count; distinct = are.distinct; held = are.each }

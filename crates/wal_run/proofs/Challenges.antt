@@ -142,6 +142,7 @@ module _ (digest : List ℕ → List ℕ) (a : Audit) (m : BlobMetadata) (primar
     pub answers : AreAnswers digest m a.beacon a.shard d primary secondary openings
     pub put : Appends old now (answer_text digest a m openings)
 
+  -- at the start none is answered, and nothing was written
   pub answered_none : Answered 0 old
   answered_none = record { openings = []; answers = answers_none digest m a.beacon a.shard primary secondary [] refl; put = Appends-nil old }
 

@@ -43,6 +43,7 @@ Same s x t y = SameAt line s x t y
 pub same : (s t : ℕ) (x y : List ℕ) → s ≡ t → x ≡ y → Same s x t y
 same s t x y status text = (status, inl text)
 
+-- two answers of status 10 are the same result if they agree before the texts that collide
 pub both_collide : (s t : ℕ) (x y front : List ℕ) (one other : MetaClash) → s ≡ 10 → t ≡ 10 → x ≡ front ++ collision_text one.left one.right
     → y ≡ front ++ collision_text other.left other.right → Same s x t y
 both_collide s t x y front one other is also ends ends_too =

@@ -22,6 +22,7 @@ go_on_more : (front back : List GetAnswer) → GoOn front → GoOn back → GoOn
 go_on_more [] back goes more = more
 go_on_more (answer ∷ front) back goes more = (goes.0, go_on_more front back goes.1 more)
 
+-- an option that is no request is None
 pub no_asked : (o : Option Asked) → ((asks : Asked) → o ≡ Some asks → ⊥) → o ≡ None
 no_asked None other = refl
 no_asked (Some asks) other = absurd (other asks refl)
@@ -162,6 +163,7 @@ module _ (digest : List ℕ → List ℕ) where
           (last_collides (no_blobs capacity) at.first f.answers answer left clash.0 all clash.1)
           (f.answers, clash.0, at, refl, refl, refl))
 
+      -- an answer that is a collision is written, and ends the run with status 10
       pub stops : (new : Option (List ℕ)) (SinkRose : Type 0) (piece : List ℕ) → is_collision answer.found ≡ true → piece ≡ answer_text answer → Appends mid new piece
           → Done capacity payloads old new SinkRose 10
       stops new SinkRose piece collides_here is put =

@@ -32,6 +32,7 @@ image_full size first (d ∷ before) c rest fits full =
 
 -- ---- what a disk holds
 
+-- zeros are an image of no changes
 pub zeros_accept : (n : ℕ) → 1 ≤ n → Accepts (replicate n 0) []
 zeros_accept zero some = absurd (omega (arith, some))
 zeros_accept (suc n) some = record { stands = record { whole = tt; gate = 0; rest = replicate n 0; is = refl; closed = λ one. absurd (omega (arith, one)) }; lawful = tt }

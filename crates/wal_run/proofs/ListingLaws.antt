@@ -97,16 +97,20 @@ lines_of contents ids = flat_map (λ id. holding_text id (parts_at contents id))
 abbrev pub IsListedTo : Contents → Option BlobId → List ℕ → Type 0
 IsListedTo contents last text = text ++ lines_of contents (to_come contents last) ≡ contents_text contents
 
+-- the empty text lists nothing yet
 pub none_listed : (contents : Contents) (text : List ℕ) → text ≡ [] → IsListedTo contents None text
 none_listed contents text empty = rw (empty, all_first) refl
 
+-- the next identifier is the first of those to come
 pub one_next : (contents : Contents) (last : Option BlobId) (id : BlobId) → Some id ≡ next_id contents last → to_come contents last ≡ id ∷ to_come contents (Some id)
 one_next contents last id next = past_next last (fin.entries contents) id (fin.entries_sorted contents) (sym next)
 
+-- with the line of the next identifier, the listing reaches to it
 pub one_listed : (contents : Contents) (last : Option BlobId) (id : BlobId) (text new : List ℕ) → Some id ≡ next_id contents last → new ≡ text ++ holding_text id (parts_at contents id) → IsListedTo contents last text → IsListedTo contents (Some id) new
 one_listed contents last id text new next more so_far =
     rw (more, append_assoc) (rw (one_next contents last id next) at so_far)
 
+-- if no identifier is next, the listing is whole
 pub all_listed : (contents : Contents) (last found : Option BlobId) (text : List ℕ) → ((id : BlobId) → found ≡ Some id → ⊥) → found ≡ next_id contents last → IsListedTo contents last text → text ≡ contents_text contents
 all_listed contents last None text other none so_far =
     let nil = none_left (to_come contents last) (sym none) in rw (← append-nil text) (rw nil at so_far)

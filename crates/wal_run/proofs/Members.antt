@@ -20,6 +20,7 @@ member_is digest id k input payloads is (Collision clash) told =
     collision clash.left clash.right _ told.3
     (record { front = []; clashes = inl ((payloads, is, told.0, told.1, told.2, told.4), refl); whole = refl })
 
+-- the status and the text of a member's answer are a result of `member`
 pub member_as : (digest : List ℕ → List ℕ) (id : BlobId) (k : ℕ) (input : List ℕ) (payloads : List (List ℕ)) (s : ℕ) (text : List ℕ) → IsStream payloads input
     → (a : MemberAnswer) → IsMember digest id.0 k payloads a → s ≡ member_status a → text ≡ member_text a → IsResult digest (unbundling digest id k) input s text
 member_as digest id k input payloads s text is a told status line = rw (status, line) (member_is digest id k input payloads is a told)

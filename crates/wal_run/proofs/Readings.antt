@@ -21,6 +21,7 @@ outcome_is digest id input payloads is (Collision clash) comes =
     collision clash.left clash.right _ comes.3
     (record { front = []; clashes = inl ((payloads, is, comes.0, comes.1, comes.2, comes.4), refl); whole = refl })
 
+-- the status and the text of an outcome are a result of `read`
 pub outcome_as : (digest : List ℕ → List ℕ) (id : BlobId) (input : List ℕ) (payloads : List (List ℕ)) (s : ℕ) (text : List ℕ) → IsStream payloads input → (o : Outcome)
     → IsOutcome digest id.0 payloads o → s ≡ outcome_status o → text ≡ outcome_text o → IsResult digest (reading digest id) input s text
 outcome_as digest id input payloads s text is o comes status line = rw (status, line) (outcome_is digest id input payloads is o comes)

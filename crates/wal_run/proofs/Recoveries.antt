@@ -14,6 +14,7 @@ module _ (digest : List ℕ → List ℕ) (id : BlobId) (axis : Axis) (index : �
   recovered_is (Inconsistent p) is = rw is.comes.0 (rejects _ (is.taken, is.takes, rw is.comes.0 at is.comes.1, refl))
   recovered_is (Short count) is = rw is.comes.0 (lacks _ (is.taken, is.takes, rw is.comes.0 at is.comes.1, refl))
 
+  -- the status and the text of what is recovered are what `recover` tells
   pub recovered_as : (o : Recovered) → Comes o → (s : ℕ) (text : List ℕ) → s ≡ recovered_status o → text ≡ recovered_text id.0 r.metadata.f axis index o
       → Told digest (recovering digest id axis index) r s text
   recovered_as o is s text status line = rw (status, line) (recovered_is o is)

@@ -11,6 +11,7 @@ use Rattle.wal_run.proofs.Endings.{performs_as}
 pub refuses_as : (refusal : Refusal) (A B : ℕ → List ℕ → Type 0) → Refuses refusal A → ((s : ℕ) (text : List ℕ) → A s text → B s text) → Refuses refusal B
 refuses_as refusal A B refuses is = λ other. is _ _ (refuses other)
 
+-- what is said stays true of a weaker relation
 pub says_as : (said : Result Answer Refusal) (A B : ℕ → List ℕ → Type 0) → Says said A → ((s : ℕ) (text : List ℕ) → A s text → B s text) → Says said B
 says_as (Ok answer) A B says is = is _ _ says
 says_as (Err refusal) A B says is = refuses_as refusal A B says is

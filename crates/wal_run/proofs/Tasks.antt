@@ -22,6 +22,7 @@ chosen : (missing least most : ℕ) (given : Option (List ℕ)) (n : ℕ) → le
 chosen missing least most None n above below is = (omega (arith, above, is), omega (arith, below, is))
 chosen missing least most (Some word) n above below is = (is.1, is.2)
 
+-- the numbers of a task that words ask for are in range
 pub in_range : (words : List (List ℕ)) (task : Task) → IsTask words task → IsInRange task
 in_range words task asked =
     let options = asked.asks.options in

@@ -14,6 +14,7 @@ module _ (digest : List ℕ → List ℕ) (a : Audit) (r : Recorded) where
   verdict_is has (Wrong d) come = rejects _ (has, d, come, refl)
   verdict_is has Accepted come = succeeds _ (has, come, refl)
 
+  -- the status and the text of a verdict are what `verify` tells
   pub verdict_as : HasShard a r → (v : AnswerVerdict) (s : ℕ) (text : List ℕ) → ClaimsCome digest a r v → s ≡ verdict_status v → text ≡ verdict_text a.count v
       → Told digest (verifying digest a) r s text
   verdict_as has v s text come status line = rw (status, line) (verdict_is has v come)

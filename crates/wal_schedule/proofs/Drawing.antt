@@ -9,11 +9,13 @@ use Rattle.std.proofs.lemmas.Grind.{flat_map-append}
 pub range_more : (n : ℕ) → range_with_len 0 (n + 1) ≡ range_with_len 0 n ++ n ∷ []
 range_more n = simp map-id at (map-range_with_len_more (λ (x : ℕ). x) 0 n n (omega arith))
 
+-- a schedule of more than 65536 events is refused
 pub too_many : (d : Data) (h : Head) (vs : List Value) → parts_of d ≡ Some (h, items_view vs) → 65536 < length vs → schedule_of d ≡ Err TooMany
 unfolding schedule_of
 too_many d h vs parts many =
     ap with_parts parts ∙ cond-true _ _ _ (lt-ltb 65536 (items_len (items_view vs)) (omega (arith, items_len-items_view vs)))
 
+-- a schedule of at most 65536 events is its head with what its events give
 pub of_parts : (d : Data) (h : Head) (vs : List Value) → parts_of d ≡ Some (h, items_view vs) → length vs ≤ 65536
     → schedule_of d ≡ schedule_with h (events_of h.f 1 (items_view vs))
 unfolding schedule_of

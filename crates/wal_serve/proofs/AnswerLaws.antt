@@ -126,6 +126,7 @@ pub entered_none : (kind : Kind) (s : ServedState) (shard : ℕ) (id : BlobId) (
     → AnswersEntry (Entered kind s.ledger shard id) s (reply_text r ∷ []) None (with_ledger s s.ledger)
 entered_none kind s shard id r is not = entry_row (Entered kind s.ledger shard id) s r s.ledger (rw is (of_none not))
 
+-- what the ledger says of a claim is the answer to its entry, and the shard stays
 pub entered_in : (kind : Kind) (s : ServedState) (shard : ℕ) (id : BlobId) (r : Reply) (new : LedgerState) → shard < committee_size s.ledger.log.f
     → ClaimEntered kind s.ledger shard id r new
     → AnswersEntry (Entered kind s.ledger shard id) s (reply_text r ∷ []) None (with_ledger s new)
@@ -141,6 +142,7 @@ pub forgets_done : (s : ServedState) (lent : LedgerState) (shard : ShardState) (
 forgets_done s lent shard id r lends may is gone =
     (r, without_slivers s.shard.contents id, rw is (forgotten (rw lends at may)), (refl, refl), ap (λ (z : ShardState). state_with z s.ledger) gone)
 
+-- to forget what may not be forgotten is refused with code 5, and changes nothing
 pub forgets_not : (s : ServedState) (lent : LedgerState) (shard : ShardState) (id : BlobId) (r : Reply) → lent ≡ s.ledger → (MayForget lent.log s.shard.contents id → ⊥) → r ≡ refused 5
     → shard ≡ s.shard → AnswersForget id s (reply_text r ∷ []) None (state_with shard s.ledger)
 forgets_not s lent shard id r lends not is stays =

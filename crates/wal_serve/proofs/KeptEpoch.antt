@@ -22,6 +22,7 @@ same_ledger old new same = rw same (record { reading = refl; owners = refl })
 pub epoch_on : (fresh old new : Log) → old ≡ fresh → KeepsEpoch old new → reading fresh ≡ 0 → reading new ≡ 0
 epoch_on fresh old new same keeps zero = keeps.reading ∙ ap reading same ∙ zero
 
+-- if at first each node has the shard of its number, it has it as long as the epoch is kept
 pub owners_on : (fresh old new : Log) (f g : ℕ) → old ≡ fresh → KeepsEpoch old new → g ≡ f → ((s : ℕ) → s < committee_size f → node_of (owners_of Now fresh) s ≡ s)
     → (s : ℕ) → s < committee_size g → node_of (owners_of Now new) s ≡ s
 owners_on fresh old new f g same keeps one own s less =

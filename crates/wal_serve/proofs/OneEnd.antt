@@ -14,12 +14,14 @@ pub data Why (limit n : ℕ) (tail : List ℕ) (clash : Option MetaClash) (long 
 
 -- ---- no envelope follows
 
+-- the empty list begins with no envelope
 pub no_bytes : (sender : ℕ) (payload after : List ℕ) → [] ≡ envelope sender payload ++ after → ⊥
 no_bytes sender payload after is = absurd cc
 
 pub first_byte : (b : ℕ) (more : List ℕ) (sender : ℕ) (payload after : List ℕ) → b ∷ more ≡ envelope sender payload ++ after → b ≡ 0x57
 first_byte b more sender payload after is = cc
 
+-- a part of an envelope does not begin with a whole one
 pub part_begins : (part : List ℕ) (sender : ℕ) (payload after : List ℕ) → IsPart part → IsPayload payload → part ≡ envelope sender payload ++ after → ⊥
 part_begins [] sender payload after is fits begins = no_bytes sender payload after begins
 part_begins (b ∷ part) sender payload after is fits begins = is.1 sender payload after fits begins

@@ -79,6 +79,7 @@ module _ {C : Type 0} (Answer : Table C) (room : ℕ) where
       state = same.state;
     }
 
+    -- payloads that are answered from one state have one answer
     pub one_going : (payloads : List (List ℕ)) (old : C) (frames others : List (List ℕ)) (clash second : Option MetaClash) (new then : C) → Goes payloads old frames clash new
         → Goes payloads old others second then → SameAnswer frames others clash second new then
     one_going [] old frames others clash second new then a b = record {
@@ -121,6 +122,7 @@ module _ {C : Type 0} (Answer : Table C) (room : ℕ) where
       pub why : Why (length front) tail clash
 
 module _ {C : Type 0} {Answer : Table C} {room : ℕ} {fresh : C} {input : List ℕ} {Why : ℕ → List ℕ → Option MetaClash → Type 0} where
+  -- a front of the input was served, and this is why no more was
   pub went : {front : List ℕ} {frames : List (List ℕ)} {clash : Option MetaClash} {state : C} (tail : List ℕ) → input ≡ front ++ tail
       → Served Answer room fresh front frames clash state → Why (length front) tail clash → Went Answer room fresh input Why frames state
   went {front} {frames} {clash} {state} tail parts served why =

@@ -133,6 +133,7 @@ module _ (digest : List ℕ → List ℕ) (old : ServedState) (xs ys : List (Lis
   one_read (Ok frame) a b = one_frame frame a b
   one_read (Err fault) a b = one_outcome (Ok (malformed fault)) (Ok (malformed fault)) refl a.0 b.0 (a.1 ∙ sym b.1)
 
+-- a request has one answer where memory is not wanted
 pub one_table : (digest : List ℕ → List ℕ) → IsSingle (AnswersRequest digest false)
 one_table digest old payload xs ys clash second new then a b = one_read digest old xs ys clash second new then (read_of payload) a b
 

@@ -10,14 +10,17 @@ use Rattle.wal_serve.proofs.OneEnd.{first_byte, part_begins}
 -- ---- a session, call after call
 
 module _ {H K : Type 0} {h : hash.Ghosts H} {k : keep.Ghosts K} where
+  -- a session stays as it is
   pub stays_at : (s : Session H K h k) → Stays s s
   stays_at s = record { shard = refl; state = refl; work = refl; place = record { f = refl; index = refl; limit = refl }; faulty = refl }
 
+  -- what stays from a to b and from b to c stays from a to c
   pub stays_on : (a b c : Session H K h k) → Stays a b → Stays b c → Stays a c
   stays_on a b c first next = grind arith
 
 -- ---- serving so far
 
+-- at the start nothing is taken and nothing is written
 pub serving_nothing : (C : Type 0) (Answer : Table C) (room own : ℕ) (fresh : C) (left old : Option (List ℕ)) → IsServing Answer room own fresh fresh left left old old 0
 serving_nothing C Answer room own fresh left old = record {
   front = [];

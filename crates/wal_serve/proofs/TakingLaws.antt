@@ -32,6 +32,7 @@ takes_past a b c Late Up size most _ front _ first long less up (Takes.too_long 
 takes_past a b c Late Up size most _ front _ first long less up (Takes.failed got more few within late) =
     Takes.failed (front ++ got) (Consumes-trans a b c front got first more) (omega (arith, length-append front got)) (omega (arith, length-append front got)) (up late)
 
+-- a payload that was taken whole is consumed, has its size, and is at most the most
 pub took_whole : (a b : Option (List ℕ)) (Up : Type 0) (size most : ℕ) (took : Took) (got : List ℕ) → took ≡ Took.Whole → Takes a b Up size most took got
     → Consumes a b got × (length got ≡ size) × (size ≤ most)
 took_whole a b Up size most took got is takes = grind arith

@@ -192,6 +192,7 @@ forget_carried digest name one other a frames clash new (r, contents, forgets, t
 
 -- ---- each row
 
+-- an option has one identifier at most
 pub the_one : (x y : BlobId) → ◌≡◌ {A = Option BlobId} (Some x) (Some y) → x ≡ y
 the_one x y same = cc
 

@@ -10,6 +10,7 @@ apart q id other = grind (arith, id_same q id)
 
 -- ---- alike
 
+-- a ledger is like itself
 pub alike_itself : (id : BlobId) (log : Log) → AlikeLedgers id log log
 alike_itself id log = record { faults = refl; epoch = refl; moving = refl; owners = λ e. refl; own = refl }
 
@@ -50,6 +51,7 @@ module _ (id : BlobId) (one other : Log) (a : AlikeLedgers id one other) where
   pub same_until : until_of other id ≡ until_of one id
   same_until = rw a.own refl
 
+  -- the identifier is live in both ledgers or in neither
   pub same_live : is_live other id ≡ is_live one id
   same_live = rw (a.epoch, a.own) refl
 
@@ -72,12 +74,15 @@ module _ (id : BlobId) (one other : Log) (a : AlikeLedgers id one other) where
         own = rw (own_entered id other b, own_entered id one b, same_writing, a.epoch, a.own) refl;
       }
 
+  -- what is open in the one is open in the other
   pub open_too : IsOpen one id → IsOpen other id
   open_too is = record { live = same_live ∙ is.live; outlasts = omega (arith, same_writing, same_until, is.outlasts) }
 
+  -- a claim that the one allows the other allows
   pub claim_too : (kind : Kind) (shard : ℕ) → MayClaim one kind shard id → MayClaim other kind shard id
   claim_too kind shard may = record { open_to_claims = open_too may.open_to_claims; first_time = signed_now kind shard ∙ may.first_time }
 
+  -- what is invalid in the one is invalid in the other
   pub invalid_too : IsInvalid one id → IsInvalid other id
   invalid_too is = record {
     live = same_live ∙ is.live;
@@ -154,6 +159,7 @@ module _ (id : BlobId) (one other : LedgerState) (a : AlikeLedgers id one.log ot
   entered_too kind shard _ _ (of_none outside) some =
       so_too other (of_none (λ less. outside (rw a.faults at less))) a
 
+  -- a registration that the one allows the other allows
   pub register_too : (until : ℕ) → MayRegister one.log id until → MayRegister other.log id until
   register_too until may = record {
     beyond = omega (arith, same_writing id one.log other.log a, may.beyond);

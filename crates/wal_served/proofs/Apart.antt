@@ -26,6 +26,7 @@ gone_apart c id q other = one (without_part c q Part.Primary) Part.Secondary ∙
 pub stored_there : (c : Contents) (id : BlobId) (part : Part) (bytes : List ℕ) → parts_at (with_bytes c id part bytes) id ≡ with_part (parts_at c id) part (Some bytes)
 stored_there c id part bytes = let p = with_part (parts_at c id) part (Some bytes) in changed_there c (map_of.insert c id p) id p (insert_changes c id p)
 
+-- without its slivers an identifier has its other parts, and neither sliver
 pub slivers_gone : (c : Contents) (id : BlobId) → parts_at (without_slivers c id) id ≡ with_part (with_part (parts_at c id) Part.Primary None) Part.Secondary None
 slivers_gone c id = gone (without_part c id Part.Primary) Part.Secondary ∙ ap (λ (p : Parts). with_part p Part.Secondary None) (gone c Part.Primary)
   where
@@ -34,9 +35,11 @@ slivers_gone c id = gone (without_part c id Part.Primary) Part.Secondary ∙ ap 
 
 -- ---- what another payload changes
 
+-- a state is like itself
 pub alike_one : (id : BlobId) (s : ServedState) → AlikeAt id s s
 alike_one id s = record { faults = refl; index = refl; parts = refl; ledgers = alike_itself id s.ledger.log }
 
+-- a frame that is not about this identifier leaves the states alike at it
 pub changed_elsewhere : (digest : List ℕ → List ℕ) (id : BlobId) (old : ServedState) (read : Result Frame FrameError) (frames : List (List ℕ)) (new : ServedState)
     → (about_read digest read ≡ Some id → ⊥) → Change digest old read frames new → AlikeAt id old new
 changed_elsewhere digest id old read frames new not change = by change

@@ -196,5 +196,6 @@ module _ (digest : List ℕ → List ℕ) (may_want : Bool) (old : ServedState) 
   by_read (Ok frame) fits h = no_change h.1
   by_read (Err fault) fits h = no_change h.1
 
+  -- a request that is answered changes what its frame may change
   pub changes : (payload : List ℕ) → AnswersRequest digest may_want old payload frames clash new → Changes (read_of payload)
   changes payload answers = by_read (read_of payload) (λ x reads. (frame_is payload x reads).fits) answers

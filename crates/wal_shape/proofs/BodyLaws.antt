@@ -89,6 +89,7 @@ module _ (k : ℕ) where
   pub run_reads : (start : ℕ) → IsReader IsBelow (λ run. length run ≡ k) (λ run. run) start (run_at k)
   run_reads start bytes = run_by start bytes _ refl
 
+  -- k bytes are read again from in front of a rest
   pub run_again : (run rest : List ℕ) → length run ≡ k → run_at k (run ++ rest) ≡ Ok (run, rest)
   run_again run rest len =
       let long : k ≤ length (run ++ rest) = omega (arith, len, length-append run rest) in

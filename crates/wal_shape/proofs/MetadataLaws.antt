@@ -196,6 +196,7 @@ format_again Two text small = refl
 format_again One [] small = refl
 format_again One (a ∷ text) small = rw (ne_eqb a 2 (omega arith))
 
+-- behind a format's text is what was put there
 pub behind_again : (format : Format) (text : List ℕ) → spelled_f text < 512 → behind_format (format_text format ++ text) ≡ text
 unfolding behind_format
 behind_again format text small = rw (format_again format text small) (drop_at (format_text format) text _ refl)
@@ -272,6 +273,7 @@ pub root_place-within : (axis : Axis) (pair : ℕ) (bytes : List ℕ) → pair <
 unfolding spelled_metadata metadata_in
 root_place-within axis pair bytes lt h = grind (arith, h.1)
 
+-- a format's text and one of the length for f have the size of metadata of f
 pub size_by : (format : Format) (f : ℕ) (text : List ℕ) → length text ≡ 10 + 64 * shard_count f → length (format_text format ++ text) ≡ text_size format f
 size_by format f text size = grind arith
 

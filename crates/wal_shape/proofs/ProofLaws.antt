@@ -221,6 +221,7 @@ pub head_found : (bytes : List ℕ) (r : Option Head) → IsBytes bytes → r �
 head_found bytes None fits e = tt
 head_found bytes (Some head) fits e = SpellProof-in bytes head fits (sym e)
 
+-- bytes in which no head is found are the text of no proof
 pub head_unread : (bytes : List ℕ) (r : Option Head) → r ≡ head_in bytes → IfNone r ((p : EncodingProof) → IsProof p → proof_text p ≡ bytes → ⊥)
 head_unread bytes None e = no_proof bytes (sym e)
 head_unread bytes (Some head) e = tt

@@ -31,6 +31,7 @@ with_parts_changes c id p = elim (cases_Bool (is_empty p)) [
   | inr some ↦ rw some (insert_changes c id p)
 ]
 
+-- after a change of one identifier's parts, it has these parts
 pub changed_there : (c n : Contents) (id : BlobId) (p : Parts) → ChangesAt c id p n → parts_at n id ≡ p
 changed_there c n id p h = h.at id ∙ ap (λ (b : Bool). cond b p (parts_at c id)) (ap is_eq (tied_itself ids_total id))
 

@@ -6,6 +6,7 @@ use Rattle.wal_shape.specs.declared.part.Part.TheVariants as parts
 use Rattle.wal_shard.proofs.Sizes.{bad_proof_most, sliver_most, sliver_short}
 use Rattle.wal_shard.proofs.Soundness.{one_metadata, sliver_sound, proof_sound}
 
+-- an option that is some bytes is Some of them
 pub some_of : (o : Option (List ℕ)) → IsSome o → o ≡ Some (unwrap_or o [])
 some_of o h = grind arith
 
@@ -27,6 +28,7 @@ module _ (digest : List ℕ → List ℕ) (f : ℕ) (shard : ℕ) (id : List ℕ
   own_size : (m : BlobMetadata) → IsOwnMetadata digest f id p m → length (unwrap_or p.metadata []) ≡ text_size m.format m.f
   own_size m own = ap (λ (o : Option (List ℕ)). length (unwrap_or o [])) own.held.spelled ∙ length-metadata_text m own.held.fit
 
+  -- metadata that is held has 10 to 64011 bytes
   pub metadata_between : IsSound digest f id shard p → IsSome p.metadata → (10 ≤ length (unwrap_or p.metadata [])) × (length (unwrap_or p.metadata []) ≤ 64011)
   metadata_between s some =
       let own = own_metadata s some in
@@ -71,11 +73,13 @@ module _ (digest : List ℕ → List ℕ) (f : ℕ) (shard : ℕ) (id : List ℕ
   pub verified_short : (axis : Axis) (index : ℕ) (bytes : List ℕ) → Verifies digest f shard p (Sliver id axis index bytes) → length bytes ≤ most_bytes
   verified_short axis index bytes v = sliver_short digest v.0 axis index bytes v.1.fit v.3
 
+  -- with a sliver that verifies the parts are sound again
   pub sliver_then : (axis : Axis) (index : ℕ) (bytes : List ℕ) → Verifies digest f shard p (Sliver id axis index bytes) → IsSound digest f id shard p
       → IsSound digest f id shard (with_part p (sliver_part axis) (Some bytes))
   sliver_then axis index bytes v s =
       sliver_sound digest f shard id axis p v.0 bytes v.1 (subst (λ i. HoldsSliver digest v.0 axis i bytes) v.2 v.3) s
 
+  -- with a proof that verifies the parts are sound again
   pub proof_then : (q : EncodingProof) → Verifies digest f shard p (Proof id q) → IsProof q → IsSound digest f id shard p
       → IsSound digest f id shard (with_part p parts.Proof (Some (proof_text q)))
   proof_then q v fit s = proof_sound digest f shard id p v.0 q v.1 v.2 fit s
@@ -84,6 +88,7 @@ module _ (digest : List ℕ → List ℕ) (f : ℕ) (shard : ℕ) (id : List ℕ
   pub beside : (axis : Axis) → IsSound digest f id shard p → IsSome (part_of p (sliver_part axis)) → IsSome p.metadata
   beside axis s some = grind (arith, s.alone)
 
+  -- beside a proof metadata is held
   pub beside_proof : IsSound digest f id shard p → IsSome p.proof → IsSome p.metadata
   beside_proof s some = grind (arith, s.alone)
 

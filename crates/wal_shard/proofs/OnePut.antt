@@ -4,9 +4,11 @@ use Rattle.wal_shape.specs.declared.text.MetaClash.{MetaClash}
 use Rattle.wal_shape.specs.declared.part.Part.TheVariants as parts
 use Rattle.wal_store.specs.Answer.{HasRoom}
 
+-- an option has one value at most
 pub some_is : {A : Type 0} (o : Option A) (x y : A) → o ≡ Some x → o ≡ Some y → x ≡ y
 some_is o x y a b = cc
 
+-- an option is not both None and Some
 pub none_some : (o : Option (List ℕ)) (x : List ℕ) → o ≡ None → o ≡ Some x → ⊥
 none_some o x none some = cc
 
@@ -55,6 +57,7 @@ module _ (digest : List ℕ → List ℕ) (d : PutDesk) (old : Contents) (frame 
     same_full o free other needed more wanted is also same equal =
         rw (← some_is o free other is also, same, equal) (self (Full wanted free))
 
+    -- a put has one answer and one result
     pub puts_once : (a b : PutAnswer) (x y : Contents) → Puts digest d old frame a x → Puts digest d old frame b y → Same a b × (x ≡ y)
     puts_once Memory b x y p q = absurd p
     puts_once a Memory x y p q = absurd q

@@ -11,6 +11,7 @@ use Rattle.wal_tree.proofs.Collisions.{count_few}
 use Rattle.wal_shard.specs.Replying.{WritesReply}
 use Rattle.wal_shard.proofs.HeldLaws.{own_metadata}
 
+-- to append two texts in turn is to append them joined
 pub appended_then : (b : Buffer) (x y : List ℕ) → appended (appended b x) y ≡ appended b (x ++ y)
 appended_then b x y =
     let room : b.spare - length x - length y ≡ b.spare - length (x ++ y) = omega (arith, length-append x y) in
@@ -79,12 +80,14 @@ opening_fits f length some few short =
     let room : most_bytes ≤ row_count f * (column_count f * symbol_size f most_bytes) = omega (arith, least.room) in
     omega (arith, longest, rows, three, room)
 
+-- three replies in turn are one reply of all their frames
 pub writes_three : (sender : ℕ) (a b c d : Buffer) (xs ys zs : List (List ℕ)) (n k j : ℕ) → WritesReply sender a xs n b → WritesReply sender b ys k c → WritesReply sender c zs j d
     → WritesReply sender a (xs ++ (ys ++ zs)) (n + k + j) d
 writes_three sender a b c d xs ys zs n k j one two three =
     let all = writes_then sender a b d xs (ys ++ zs) n (k + j) one (writes_then sender b c d ys zs k j two three) in
     record { written = all.written; counted = omega (arith, all.counted) }
 
+-- no shard's index is 3 * f + 1 or more
 pub too_many : (f g index : ℕ) → g ≡ f → 3 * f + 1 ≤ index → index < shard_count g → ⊥
 too_many f g index e many below = omega arith
 

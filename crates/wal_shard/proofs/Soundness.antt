@@ -94,6 +94,7 @@ module _ (digest : List ℕ → List ℕ) (f : ℕ) (shard : ℕ) where
       subst (IsSound digest f q.0 shard) (sym (h.at q))
       (cond_both (eq_by_cmp id_cmp q id) p (parts_at c q) (IsSound digest f q.0 shard) (λ e. rw (same_id q id e) new) (λ other. s q))
 
+  -- contents stay sound if the parts of the identifier to which bytes are put do
   pub put_sound : (c : Contents) (id : BlobId) (part : Part) (bytes : List ℕ) → AreSound digest f shard c
       → IsSound digest f id.0 shard (with_part (parts_at c id) part (Some bytes)) → AreSound digest f shard (with_bytes c id part bytes)
   put_sound c id part bytes s new =
@@ -118,5 +119,6 @@ module _ (digest : List ℕ → List ℕ) (f : ℕ) (shard : ℕ) where
       subst (IsSound digest f q.0 shard) (sym (retained c (is_live log) q))
       (cond_both (is_live log q) (parts_at c q) no_parts (IsSound digest f q.0 shard) (λ live. s q) (λ dead. none_sound q.0))
 
+  -- contents with nothing in them are sound
   pub empty_sound : AreSound digest f shard map.empty
   empty_sound q = subst (IsSound digest f q.0 shard) (sym (ap (λ o. unwrap_or o no_parts) (get-empty id_cmp q))) (none_sound q.0)

@@ -33,6 +33,7 @@ runs_agree limit l r old m n [] xs ys p q some other = grind arith
 no_want : (limit : Option ℕ) (m : Contents) (id : BlobId) (bytes : List ℕ) (a : PutAnswer) → IsPutAnswer limit false m id bytes a → a ≢ Err Memory
 no_want limit m id bytes a p is = grind arith
 
+-- no answer of a run that may not want memory wants it
 pub never_wants : (limit : Option ℕ) (old new : Contents) (calls : List Call) (xs : List PutAnswer) → RunsTo limit false old calls xs new → NoneWants xs
 never_wants limit old new [] [] p = All-nil has_memory
 never_wants limit old new (Put id part bytes ∷ calls) (a ∷ xs) p =
@@ -160,6 +161,7 @@ lawful-append old (call ∷ first) more =
 
 -- ---- Copies of consecutive ranges.
 
+-- the copies, joined, are the bytes from `at` on, as many as their sizes say
 pub copies_join : (bytes : List ℕ) (at : ℕ) (sizes : List ℕ) → copies bytes at sizes ≡ take (sum sizes) (drop at bytes)
 copies_join bytes at [] = refl
 copies_join bytes at (size ∷ sizes) =

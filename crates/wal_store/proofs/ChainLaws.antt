@@ -5,12 +5,15 @@ use Rattle.std.proofs.lemmas.List.{length-take, length-drop, drop-drop}
 pub taken_at-le : (ss : List PageState) (k : ℕ) → taken_at ss k ≤ 1
 taken_at-le ss k = grind arith
 
+-- a page at which a taken one is counted is taken
 pub taken_is : (ss : List PageState) (k : ℕ) → 0 < taken_at ss k → IsTakenPage ss k
 taken_is ss k is = grind arith
 
+-- with k in front it is used once more
 pub uses_self : (k : ℕ) (ks : List ℕ) → uses k (k ∷ ks) ≡ 1 + uses k ks
 uses_self k ks = ap (λ b. cond {A = ℕ} b 1 0 + uses k ks) (eq-eqb k k refl)
 
+-- the uses of k are those in the first number and those in the others
 pub uses_cons : (k j : ℕ) (ks : List ℕ) → uses k (j ∷ ks) ≡ uses k (j ∷ []) + uses k ks
 uses_cons k j ks = omega arith
 
@@ -64,6 +67,7 @@ pub record Stored (size : ℕ) (old now : Linked) (bytes : List ℕ) (done left 
   pub content : take (length bytes - size * left) (joined now.states (links now.next done first)) ≡ drop (size * left) bytes
   pub free : count_by is_free now.states + done ≡ count_by is_free old.states
 
+-- at the start none of the bytes are stored, if the pages left have room for them
 pub stored_none : (size : ℕ) (old : Linked) (bytes : List ℕ) (left first : ℕ) → length bytes ≤ size * left → Stored size old old bytes 0 left first
 stored_none size old bytes left first all = record {
   adds = adds_none old;
@@ -129,10 +133,12 @@ pub pages_reach : (size n : ℕ) → n < pages_for size → 4096 * n < size
 unfolding pages_for
 pages_reach size n below = omega arith
 
+-- the pages for a size have room for it
 pub pages_hold : (size : ℕ) → size ≤ 4096 * pages_for size
 unfolding pages_for
 pages_hold size = omega arith
 
+-- the bytes up to the end or the size are the chunk of this size
 pub chunk_is : (size start end : ℕ) (bytes : List ℕ) → end ≡ min (length bytes) (start + size) → take (end - start) (drop start bytes) ≡ take size (drop start bytes)
 chunk_is size start end bytes is =
     let rest : List ℕ = drop start bytes in

@@ -84,6 +84,7 @@ module _ {K X : Type 0} (R : K → K → Ordering) (total : IsTotalOrder R) wher
 
 -- ---- Entries in order, changed at a place.
 
+-- to remove what is not there changes nothing
 pub gone_none : {K X : Type 0} (test : K → Bool) (es : List (K × X)) → lookup test es ≡ None → remove_entry test es ≡ es
 gone_none test [] none = refl
 gone_none test (e ∷ es) none = grind (arith, gone_none test es)

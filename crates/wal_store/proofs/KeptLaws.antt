@@ -51,6 +51,7 @@ entry_id : (l : Linked) (rows : List Row) (j : ℕ) (e : BlobId × Parts) → sl
 entry_id l rows j e found =
     cc (keys_of-entries_of l rows, slice_get-map {B = BlobId} (λ (x : BlobId × Parts). x.0) (entries_of l rows) j)
 
+-- an identifier that falls into a gap of the rows is not found
 pub found_gap : (l : Linked) (rows : List Row) (i : ℕ) (id : BlobId) → IsGap id (ids_of rows) i → Owns l rows
     → found_in (entries_of l rows) id ≡ None
 found_gap l rows i id gap owns =
@@ -129,6 +130,7 @@ slot_at l rows i id part r o s owns at read slot is =
       taken = λ k. rw here at (slot_taken l rows i r part k owns found);
     }
 
+-- an option that is None is not Some
 pub part_none : (o : Option (List ℕ)) → o ≡ None → IsSome o → ⊥
 part_none o none some = cc
 
@@ -150,6 +152,7 @@ rows_fit l rows pages all = omega (arith, all, each_costs rows)
 
 -- ---- a part that goes
 
+-- to drop a part of an identifier that is not there changes nothing
 pub dropped_none : (es : Entries) (id : BlobId) (part : Part) → found_in es id ≡ None
     → es ≡ changed_in es id (with_part (parts_in es id) part None)
 dropped_none es id part found = cc (empty_still part, gone_none (is_at (id_cmp id)) es found)
@@ -220,6 +223,7 @@ none_taken : (n k : ℕ) → taken_at (replicate n Free) k ≡ 0
 none_taken (suc n) (suc k) = none_taken n k
 none_taken n k = refl
 
+-- pages that are all free belong to no rows, and all of them count
 pub new_table : (l : Linked) (pages : ℕ) → l.states ≡ replicate pages Free → Owns l [] × (all_pages l [] ≡ pages)
 unfolding IsStrictlySortedBy
 new_table l pages free =

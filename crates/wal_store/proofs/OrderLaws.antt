@@ -7,10 +7,12 @@ use Rattle.wal_store.proofs.EntriesLaws.{entries_view, remove_view, remove_at}
 use Rattle.wal_store.proofs.IdentifierLaws.{ids_total, exact_ids}
 use Rattle.wal_store.proofs.TableLaws.{sorted-remove}
 
+-- both sides of a true `&&` are true
 pub both_of : (a b : Bool) → T (a && b) → T a × T b
 both_of true b t = (tt, t)
 both_of false b t = absurd t
 
+-- an ordering that `is_lt` is Less
 pub less_of : (o : Ordering) → T (is_lt o) → o ≡ Less
 less_of Less t = refl
 less_of o t = absurd t
@@ -21,6 +23,7 @@ below_of k (e ∷ es) t =
     let parts = both_of (is_lt (id_cmp k e.0)) (below_all id_cmp k es) t in
     (less_of (id_cmp k e.0) parts.0, below_of k es parts.1)
 
+-- entries that are tested to be sorted have keys in strict order
 pub sorted_of : (es : Entries) → T (is_sorted id_cmp es) → IsStrictlySortedBy id_cmp (keys_of es)
 unfolding IsStrictlySortedBy
 sorted_of [] t = tt
@@ -44,6 +47,7 @@ moved_down (x ∷ xs) zero j up above next = let is : up ≡ suc j = omega arith
 moved_down [] (suc i) j up above next = refl
 moved_down xs i j up above next = grind arith
 
+-- to remove an identifier takes its place out of the keys
 pub closes_place : (m : Contents) (id : BlobId) (i : ℕ) → slice_get (fin.keys m) i ≡ Some id → fin.keys (fin.remove m id) ≡ remove (fin.keys m) i
 closes_place m id i at =
     let es : Entries = fin.entries m in
@@ -57,8 +61,10 @@ closes_place m id i at =
     ∙ ap (λ (n : Contents). fin.keys n) (sym (remove_view id_cmp ids_total exact_ids es id sorted after))
     ∙ ap keys_of (entries_view id_cmp left after) ∙ keys
 
+-- the keys before the one that is removed keep their places
 pub keeps_below : (m : Contents) (id : BlobId) (i j : ℕ) → slice_get (fin.keys m) i ≡ Some id → j < i → slice_get (fin.keys (fin.remove m id)) j ≡ slice_get (fin.keys m) j
 keeps_below m id i j at below = ap (λ ks. slice_get ks j) (closes_place m id i at) ∙ slice_get-remove_below (fin.keys m) i j below
 
+-- the keys behind the one that is removed move down by one place
 pub moves_down : (m : Contents) (id : BlobId) (i j : ℕ) → slice_get (fin.keys m) i ≡ Some id → i ≤ j → slice_get (fin.keys (fin.remove m id)) j ≡ slice_get (fin.keys m) (j + 1)
 moves_down m id i j at above = ap (λ ks. slice_get ks j) (closes_place m id i at) ∙ moved_down (fin.keys m) i j (j + 1) above refl

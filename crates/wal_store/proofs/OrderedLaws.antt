@@ -87,6 +87,7 @@ pub last_within : (S : List Row) (order unused left : List ℕ) (k : ℕ) → Is
 last_within S order unused left k is last =
     is.within k (omega (arith, ap (uses k) last, uses-append k left (k ∷ []), uses_self k []))
 
+-- a row written to the last unused place is in order where it was inserted
 pub row_put : (S : List Row) (order unused left : List ℕ) (i k : ℕ) (w : Row) → IsOrder S order unused → unused ≡ left ++ k ∷ [] → Ordered (slice_set S k w) (insert order i k) left (insert (rows_at S order) i w)
 row_put S order unused left i k w is last =
     let split : (j : ℕ) → uses j unused ≡ uses j left + uses j (k ∷ []) = λ j. ap (uses j) last ∙ uses-append j left (k ∷ []) in
@@ -121,6 +122,7 @@ range_uses a zero k = omega arith
 range_uses a (suc n) k =
     let rest = range_uses (a + 1) n k in (grind (arith, nat_tests), λ used. grind (arith, nat_tests))
 
+-- with no rows in order, all places are unused
 pub no_order : (S : List Row) (order unused : List ℕ) (n : ℕ) → length S ≡ n → order ≡ [] → unused ≡ range_with_len 0 n → IsOrder S order unused
 no_order S order unused n long none all = record {
   once = λ k. omega (arith, ap (uses k) none, ap (uses k) all, (range_uses 0 n k).0);

@@ -77,13 +77,16 @@ module _ (f : BlobId → Bool) where
     pub same : fin.retain_keys now f ≡ fin.retain_keys old f
     pub chosen : (x : BlobId) (j : ℕ) → slice_get (fin.keys now) j ≡ Some x → is_past last x ≡ false → f x ≡ true
 
+  -- at the start no identifier is passed
   pub none_passed : (old : Contents) → Passed old old None
   none_passed old = record { same = refl; chosen = λ x j at past. absurd (true≢false past) }
 
+  -- if no key is left behind the last that was passed, only what is chosen is left
   pub all_passed : (old now : Contents) (last : Option BlobId) → Passed old now last → length (filter (is_past last) (fin.keys now)) ≡ 0 → now ≡ fin.retain_keys old f
   all_passed old now last passed none =
       sym (all_stay now (λ x j at. passed.chosen x j at (none_pass (is_past last) (fin.keys now) none j x at))) ∙ passed.same
 
+  -- if no identifier is next, only what is chosen is left
   pub none_next : (old now : Contents) (last : Option BlobId) → Passed old now last → None ≡ next_id now last → now ≡ fin.retain_keys old f
   none_next old now last passed none = all_passed old now last passed (no_first (filter (is_past last) (fin.keys now)) (sym none))
 

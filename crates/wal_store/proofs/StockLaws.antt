@@ -46,6 +46,7 @@ kept_found (e ∷ es) id p kept found = grind (arith, kept.0, kept_found es id p
 pub part_swap : (p : Parts) (part : Part) (bytes : Option (List ℕ)) → cost_of (with_part p part bytes) + part_cost (part_of p part) ≡ cost_of p + part_cost bytes
 part_swap p part bytes = grind arith
 
+-- to take a part from no parts leaves none
 pub empty_still : (part : Part) → is_empty (with_part no_parts part None) ≡ true
 empty_still part = grind arith
 
@@ -181,14 +182,17 @@ recharged_less budget cost after gone within change =
     λ b is. omega (arith, within b is) in
     (fits, λ now is. recharged_within budget now cost after gone 0 within is (omega arith) fits)
 
+-- an unused budget has the limit for which it was made
 pub unused_limit : (limit : Option ℕ) → option_map {T = Budget} (λ b. b.limit) (option_map {T = ℕ} (λ most. record { limit = most; used = 0 }) limit) ≡ limit
 unused_limit limit = grind arith
 
+-- equal contents and limits are equal states of a store
 pub store_is : (m n : Contents) (a b : Option ℕ) → m ≡ n → a ≡ b → ◌≡◌ {A = StoreState} (record { contents = m; limit = a }) (record { contents = n; limit = b })
 store_is m n a b p q = λ i. record { contents = p i; limit = q i }
 
 -- ---- The first identifier past another one.
 
+-- the identifier at the lower of two places is less
 pub in_order : (ids : List BlobId) (i j : ℕ) (x y : BlobId) → IsStrictlySortedBy id_cmp ids → i < j → slice_get ids i ≡ Some x → slice_get ids j ≡ Some y → id_cmp x y ≡ Less
 in_order ids i j x y sorted lt at_i at_j =
     let less = Less-from_sorted id_cmp ids i j x sorted lt (slice_get_within ids j y at_j) in
@@ -290,6 +294,7 @@ first_behind p x ids id fails place rest = record { at = rest.at; passes = rest.
     before zero y lt at = let is : x ≡ y = cc in cc (ap p is)
     before (suc j) y lt at = rest.before j y (omega arith) at
 
+-- the first identifier that passes a filter stands at some place as the first that does
 pub first_at : (p : BlobId → Bool) (ids : List BlobId) (id : BlobId) → slice_get (filter p ids) 0 ≡ Some id → (place : ℕ) × IsFirstAt p ids id place
 first_at p [] id found = cc
 first_at p (x ∷ ids) id found = elim (cases_Bool (p x)) [

@@ -54,6 +54,7 @@ written size old mid new n bytes free taken long write fits =
       long = cc (length-overwrite (page_bytes mid n) 0 bytes);
     }
 
+-- if all pages are free, there is no token
 pub all_none : (tokens : List (Option ℕ)) (ss : List PageState) → tokens ≡ tokens_of 0 ss → ((k : ℕ) (d : PageState) → k < length ss → get_or ss k d ≡ Free) → (k : ℕ) (d : Option ℕ) → k < length tokens → get_or tokens k d ≡ None
 all_none tokens ss match all k d below =
     let within : k < length ss = omega (arith, ap length match, length-tokens_of 0 ss) in

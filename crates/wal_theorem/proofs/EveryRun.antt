@@ -42,6 +42,7 @@ module _ (digest : List ℕ → List ℕ) (is : IsDigest digest) (f : ℕ) where
   same_own : IsOneToOne digest → (id : BlobId) (m o : BlobMetadata) → IsOwn id m → IsOwn id o → m ≡ o
   same_own one id m o own other = one_metadata digest one m o own.0.fit other.0.fit own.1 other.1 (sym own.0.identifier ∙ other.0.identifier)
 
+  -- for f from 1 to 333 the rules are total
   pub total_of : 1 ≤ f → f ≤ 333 → Total b
   total_of some few = record {
     message = λ format blob short are. surely (message_exists digest is f some few format blob short are);
@@ -150,6 +151,7 @@ module _ (digest : List ℕ → List ℕ) (is : IsDigest digest) (f : ℕ) where
   )
   plain_collision old event new none = absurd none
 
+  -- a step by the rules b is one by the rules r
   pub plain_step : (old : World) (event : Event) (said : Line) (new : World) → Steps b old event said new → Steps r old event said new
   unfolding plain_write
   plain_step old (Write blob to) (line.Write i (write_word.Stored count bytes)) new (same, w) = (

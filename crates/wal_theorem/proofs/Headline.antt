@@ -16,6 +16,7 @@ module _ (digest : List ℕ → List ℕ) (size : (text : List ℕ) → length (
   pub facts_start : (s : Schedule) → IsSchedule s → Facts (rules_of digest s.f) (first_state s)
   facts_start s fit = facts_first (rules_of digest s.f) (laws_of digest size s.f fit.most) s fit refl
 
+  -- a step keeps the facts
   pub facts_kept : (f : ℕ) → f ≤ 333 → (old : World) (event : Event) (said : Line) (new : World) → Facts (rules_of digest f) old → IsEventWithin (committee_size old.log.f) event
       → Steps (rules_of digest f) old event said new → Facts (rules_of digest f) new
   facts_kept f few old event said new facts fit step = facts_step (rules_of digest f) (laws_of digest size f few) old event said new facts fit step

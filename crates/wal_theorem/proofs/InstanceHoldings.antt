@@ -19,6 +19,7 @@ pub each_put : (P : BlobId → Parts → Type 0) (m : Contents) (id : BlobId) (p
 each_put P m id part bytes was here q =
     grind (arith, (insert_changes m id (with_part (parts_at m id) part (Some bytes))).at q, same_id q id, was q)
 
+-- a put of a part that was not held only adds
 pub above_put : (m : Contents) (id : BlobId) (part : Part) (bytes : List ℕ) → part_at m id part ≡ None → AreAbove m (with_bytes m id part bytes)
 above_put m id part bytes none =
     each_put (λ q p. IsAbove (parts_at m q) p) m id part bytes (λ q p x at. at) (more_above (parts_at m id) part bytes none)
@@ -31,6 +32,7 @@ kept_holds P m id part bytes stays more = grind arith
 pub above_kept : (m : Contents) (id : BlobId) (part : Part) (bytes : List ℕ) → AreAbove m (kept m id part bytes)
 above_kept m id part bytes = kept_holds (AreAbove m) m id part bytes (λ q p x at. at) (above_put m id part bytes)
 
+-- what is above b is above all that b is above
 pub above_both : (a b c : Contents) → AreAbove a b → AreAbove b c → AreAbove a c
 above_both a b c first second id part bytes at = second id part bytes (first id part bytes at)
 

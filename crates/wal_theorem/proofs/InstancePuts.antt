@@ -31,6 +31,7 @@ module _ (digest : List ℕ → List ℕ) (f : ℕ) (log : Log) (shard : ℕ) (o
   part_sound (Proof id p) fit was accepted none = proof_then digest f shard id _ p accepted.verified fit.1 (was (record { 0 = id }))
   part_sound _ fit was accepted none = absurd accepted.verified
 
+  -- a put of a frame leaves sound contents sound
   pub put_sound : (new : Contents) (frame : Frame) (answer : PutAnswer) → PutsFrame digest f log shard old frame answer new → AreSound digest f shard old → AreSound digest f shard new
   put_sound new frame answer puts was =
       by_put (AreSound digest f shard) digest f log shard old new frame answer was

@@ -45,6 +45,7 @@ shows_metadata id p middle m holds =
     rw holds.spelled
     (contains_first _ _ (middle ++ proof_reply id p) (ap metadata_frame (spelled_metadata-text m holds.fit)))
 
+-- what is in the middle of what is told is told
 pub shows_middle : (id : List ℕ) (p : Parts) (middle : List (List ℕ)) (x : List ℕ) → Contains middle x → Contains (told id p middle) x
 shows_middle id p middle x c =
     Contains-append_right (metadata_reply p) (middle ++ proof_reply id p) x (Contains-append_left middle (proof_reply id p) x c)

@@ -32,9 +32,11 @@ module _ (digest : List ℕ → List ℕ) (is : IsDigest digest) where
   facts_bytes : (f : ℕ) (w : World) → Facts (byte_rules digest f) w → WorldOfBytes w
   facts_bytes f w facts = record { parts = λ side s id. (facts.sound side s id).1; answers = λ id a at. (facts.answers id a at).1 }
 
+  -- at the start the facts hold and all is bytes
   pub bytes_start : (s : Schedule) → IsSchedule s → Facts (rules_of digest s.f) (first_state s) × WorldOfBytes (first_state s)
   bytes_start s fit = (facts_start digest is.size s fit, facts_bytes s.f (first_state s) (facts_first (byte_rules digest s.f) (byte_laws digest is.size s.f fit.most) s fit refl))
 
+  -- a step keeps the facts, and that all is bytes
   pub bytes_kept : (f : ℕ) (old : World) (event : Event) (said : Line) (new : World) → Facts (rules_of digest f) old → WorldOfBytes old → Fits f event → HasBytes event
       → Steps (rules_of digest f) old event said new → Facts (rules_of digest f) new × WorldOfBytes new
   bytes_kept f old event said new facts bytes fits are step =

@@ -44,9 +44,11 @@ proof_openings p are =
 
 -- ---- payloads
 
+-- the text of a proof that is read from bytes is bytes
 pub proof_of : (payload id : List ℕ) (p : EncodingProof) → AreBytes payload → read_of payload ≡ Ok (Proof id p) → AreBytes (proof_text p)
 proof_of payload id p are reads = bytes_behind (0x13 ∷ id) (proof_text p) (spells payload (Proof id p) are reads)
 
+-- the content of a sliver that is read from bytes is bytes
 pub sliver_of : (payload id : List ℕ) (axis : Axis) (index : ℕ) (content : List ℕ) → AreBytes payload → read_of payload ≡ Ok (Sliver id axis index content) → AreBytes content
 sliver_of payload id axis index content are reads =
     bytes_behind (sliver_front id axis index (length content)) content

@@ -7,6 +7,7 @@ use Rattle.std.proofs.lemmas.List.{length-drop}
 pub append_front : (a b xs ys : List ℕ) → length a ≡ length b → a ++ xs ≡ b ++ ys → a ≡ b
 append_front a b xs ys long e = cc (take-append_seam a xs, take-append_seam b ys)
 
+-- equal lists have equal backs behind fronts of one length
 pub append_back : (a b xs ys : List ℕ) → length a ≡ length b → a ++ xs ≡ b ++ ys → xs ≡ ys
 append_back a b xs ys long e = cc (drop-append_seam a xs, drop-append_seam b ys)
 

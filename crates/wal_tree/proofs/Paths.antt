@@ -63,6 +63,7 @@ height-step (suc (suc more)) many =
     ap (λ k. k + 1) (height_within-enough (suc more) ((suc (suc more) + 1) / 2) ((suc (suc more) + 1) / 2) (omega arith) (omega arith))
 height-step count many = absurd (omega arith)
 
+-- a tree over at most one leaf has height 0
 pub height-end : (count : ℕ) → count ≤ 1 → height count ≡ 0
 unfolding height
 height-end count few = grind arith

@@ -106,6 +106,7 @@ pub four_values : (d : Bor (List ℕ)) (values : List (Bor (List ℕ))) → 4 �
 four_values d (v ∷ w ∷ x ∷ y ∷ []) some few = refl
 four_values d values some few = absurd (omega arith)
 
+-- a list of five values, one by one
 pub five_values : (d : Bor (List ℕ)) (values : List (Bor (List ℕ))) → 5 ≤ length values → length values < 6
     → map (λ (v : Bor (List ℕ)). v.now) values
     ≡ (get_or values 0 d).now ∷ (get_or values 1 d).now ∷ (get_or values 2 d).now ∷ (get_or values 3 d).now ∷ (get_or values 4 d).now ∷ []
@@ -181,11 +182,13 @@ judged app given words r same texts judge =
     let judge' : Judges program words r = subst (λ (a : App). Judges a words r) same (subst (λ (w : List (List ℕ)). Judges app w r) texts judge) in
     judge' free
 
+-- the grammar finds no fault in words that the parser takes
 pub no_fault : (app : App) (given words : List (List ℕ)) (r : Result ArgMatches Error) (m : ArgMatches) → app ≡ program → given ≡ words
     → (is_simple_and_free app ≡ true → FailsBy (fault_of app given) r) → r ≡ Ok m → fault_of program words ≡ []
 no_fault app given words r m same texts judge is =
     subst (λ (q : Result ArgMatches Error). FailsBy (fault_of program words) q) is (judged app given words r same texts judge)
 
+-- words that the parser refuses, but for want of memory, ask for nothing
 pub no_task : (app : App) (given words : List (List ℕ)) (r : Result ArgMatches Error) (e : Error) → app ≡ program → given ≡ words
     → (is_simple_and_free app ≡ true → FailsBy (fault_of app given) r) → r ≡ Err e → (kind_of e ≡ OutOfMemory → ⊥) → NoTask words
 no_task app given words r e same texts judge is other = λ t asked.

@@ -23,6 +23,7 @@ compared_is digest w id answer first (Ok None) there same differs =
 pub no_first : (m : BTreeMap BlobId First) (id : BlobId) (told : Verdict) → IsOrdered id_cmp m → None ≡ get_by (id_cmp id) m → AgreesWithFirst (from_sorted m.entries) id told
 no_first m id told ordered at answer h = absurd (let e : ◌≡◌ {A = Option First} None (Some answer) = sym (found m id None ordered at) ∙ h in cc)
 
+-- to insert a first answer where none is gives the model's first answers
 pub new_first : (m new : BTreeMap BlobId First) (id : BlobId) (answer : First) → IsOrdered id_cmp m → None ≡ get_by (id_cmp id) m
     → new.entries ≡ insert_entry id_cmp m.entries id answer → from_sorted {R = id_cmp} new.entries ≡ answered (from_sorted m.entries) id answer
 new_first m new id answer ordered at is =

@@ -20,6 +20,7 @@ pub each_stops : (r : Rules) (log : Log) (c new : Committee) (a b : List (ℕ ×
 each_stops r log c new [] b h = absurd (let e : true ≡ false = h.0 in cc)
 each_stops r log c new (p ∷ more) b h = (h.0, h.1, h.2, either (is_clash h.0) h.3 (λ g. g) (λ g. each_stops r log (with_contents c p.0 h.1) new more b g))
 
+-- to change a committee of a world leaves its log
 pub side_log : (side : Side) (w : World) (c : Committee) → (with_side side w c).log ≡ w.log
 side_log side w c = grind arith
 

@@ -23,16 +23,19 @@ same_text parts own holds bytes at = let e : ◌≡◌ {A = Option (List ℕ)} (
 -- ---- what is known
 
 module _ (digest : List ℕ → List ℕ) (f : ℕ) (id : BlobId) (parts : Parts) (payloads : List (List ℕ)) where
+  -- if no payload carries metadata, what the shard holds is the only one
   pub only_held : (own : BlobMetadata) (o : Option BlobMetadata) → ((m : BlobMetadata) → HasMetadata digest id.0 payloads m → ⊥) → o ≡ Some own → IsHeldMetadata digest f id.0 parts o
       → IsOnly digest id parts payloads own
   only_held own o none is held =
       let h = rw is at held in
       record { known = inr h.held; only = held_alone digest id parts payloads own none h.held; commits = h.commits; same = same_text parts own h.held }
 
+  -- if no payload carries metadata and the shard holds none, none is known
   pub none_both : (o : Option BlobMetadata) → ((m : BlobMetadata) → HasMetadata digest id.0 payloads m → ⊥) → o ≡ None → IsHeldMetadata digest f id.0 parts o
       → (m : BlobMetadata) → Knows digest id parts payloads m → ⊥
   none_both o none is h = none_known digest id parts payloads none (rw is at h)
 
+  -- if the shard holds the metadata that the payloads carry, it is the only one
   pub only_beside : (m own : BlobMetadata) (o : Option BlobMetadata) → IsMetadataIn digest id.0 payloads m → own ≡ m → o ≡ Some own → IsHeldMetadata digest f id.0 parts o
       → IsOnly digest id parts payloads own
   only_beside m own o one same is held =
@@ -44,6 +47,7 @@ module _ (digest : List ℕ → List ℕ) (f : ℕ) (id : BlobId) (parts : Parts
         same = same_text parts own h.held;
       }
 
+  -- if the shard holds none, the metadata that the payloads carry is the only one
   pub only_first : (m copy : BlobMetadata) (o : Option BlobMetadata) → IsMetadataIn digest id.0 payloads m → Commits digest id.0 m → copy ≡ m → o ≡ None
       → IsHeldMetadata digest f id.0 parts o → IsOnly digest id parts payloads copy
   only_first m copy o one commits same is held =

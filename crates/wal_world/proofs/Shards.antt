@@ -29,6 +29,7 @@ place_below side n shards i k is there e same less =
     let count = (side_shards side n is there).count in
     subst (λ (xs : List ShardState). k < length xs) (sym e) (omega (arith, less, same, count))
 
+-- the shard at this place of the list is the one of this index
 pub shard_is : {H : Type 0} (side : Side) (n : Network H) (shards : List ShardState) (i k : ℕ) (s : ShardState) → IsNetwork n → is_present side (world_of n) ≡ true
     → shards ≡ shards_of side n → k ≡ i → i < committee_size (ledger_of n.books).log.f → s ≡ slice_index_or shards k s
     → IsShardOf side n i s

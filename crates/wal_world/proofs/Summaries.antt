@@ -21,6 +21,7 @@ pub record IsSumming (r : Rules) (schedule : Schedule) (count : ℕ) (w : World)
   pub counted : IsTally run.lines t
 
 module _ {r : Rules} {s : Schedule} where
+  -- before the first event the tally of no lines is right
   pub summing_first : {w : World} {t : Tally} → w ≡ first_state s → IsTally [] t → IsSumming r s 0 w t
   summing_first same none = record { run = running_first same; counted = none }
 

@@ -62,6 +62,7 @@ least_push lines said least is =
 among_first : (b c : Bool) → cond b true c ≡ (c || (b || false))
 among_first b c = grind arith
 
+-- a set with one identifier more is that of the list with it
 pub put_one : (seen : List BlobId) (old new : BTreeSet BlobId) (id : BlobId) → IsFromIterResult id_cmp seen old → Updates id_cmp old new id true → IsOrderedSet id_cmp new
     → IsFromIterResult id_cmp (seen ++ id ∷ []) new
 put_one seen old new id from put ordered = (
@@ -106,6 +107,7 @@ pub record HasRoom (t : Tally) : Type 0 where
   pub reads : t.reads < 65536
   pub recovered : t.recovered < 65536
 
+-- a tally of fewer than 65536 lines has room
 pub has_room : (lines : List Line) (t : Tally) → IsTally lines t → length lines < 65536 → HasRoom t
 has_room lines t is few = record {
   events = omega (arith, is.events, few);

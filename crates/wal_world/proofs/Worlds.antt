@@ -7,6 +7,7 @@ use Rattle.wal_world.specs.World.{WorldState}
 use Rattle.wal_world.specs.inside.World.{IsWorld}
 
 module _ (digest : List ℕ → List ℕ) (size : (text : List ℕ) → length (digest text) ≡ 32) where
+  -- a first network is a world
   pub first_world : {H : Type 0} (f epoch : ℕ) (format : Format) (owners faulty : List ℕ) (room : ℕ) (n : Network H) → IsFirst f epoch format owners faulty room n
       → IsWorld digest n false
   first_world f epoch format owners faulty room n is =

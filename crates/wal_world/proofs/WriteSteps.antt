@@ -8,6 +8,7 @@ use Rattle.wal_world.proofs.LetterLaws.{frame_again, put_clashes, put_stays, put
 
 -- ---- what puts leave alone
 
+-- networks with the same books have the same correct shards
 pub same_correct : {H : Type 0} (a b : Network H) (side : Side) (shard : ℕ) → a.books ≡ b.books → is_correct side (world_of a) shard ≡ is_correct side (world_of b) shard
 same_correct a b Now shard e = ap (λ (k : Option Books). true && not (among (faulty_on Now k) shard)) e
 same_correct a b Next shard e = ap (λ (k : Option Books). is_moving (ledger_of k).log && not (among (faulty_on Next k) shard)) e
@@ -55,6 +56,7 @@ spell_each w shard texts spelled h = rw spelled (each (messages_of w shard) (tt,
 
 -- ---- one step on in a list
 
+-- the letters from a place on are the one there and those behind it
 pub letter_next : (shard : ℕ) (texts : List (List ℕ)) (i : ℕ) (text : List ℕ) → i < length texts → text ≡ get_or texts i text
     → letters_in shard (drop i texts) ≡ ((shard, frame_in text) ∷ []) ++ letters_in shard (drop (i + 1) texts)
 letter_next shard texts i text less at = rw (drop_more texts i text less, ← at)
@@ -97,6 +99,7 @@ stores_is w side shard s id m x a slivers result correct there named metadata if
 
 -- ---- shards in ascending order
 
+-- numbers that ascend and end below n are below n
 pub ascending_below : (low n : ℕ) (xs : List ℕ) → ascends_from low n xs ≡ true → AllByRecursion (λ s. s < n) xs
 ascending_below low n [] h = tt
 ascending_below low n (x ∷ xs) h =

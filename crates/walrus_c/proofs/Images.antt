@@ -140,6 +140,7 @@ module _ (digest : List ℕ → List ℕ) (size_is : (text : List ℕ) → lengt
       (λ i h. shard_bytes id shape e i (identifier_long m) long h) in
       rw length-append (omega (arith, length-envelope 0 (metadata_frame m), text, rest))
 
+  -- what `encode` tells has room in the bytes of its encoding
   pub encoded : (f : ℕ) (format : Format) (input : List ℕ) → (1 ≤ f) × (f ≤ 333) → length input ≤ most_bytes
       → Tells digest (encoding digest f format) input (encoded_bytes f format (min (length input) most_bytes))
   encoded f format input fit within succeeds bytes spells text is =

@@ -31,6 +31,7 @@ pub one_fits : (room : ℕ) (prefix : List ℕ) (n : ℕ) (text : List ℕ) → 
     → text ≡ number_text prefix n → length text ≤ room
 one_fits room prefix n text most short small is = omega (arith, ap length is, number_line prefix n small, short, most)
 
+-- two numbers below 1000000000 and at most 200 bytes beside them have room in 272
 pub two_fits : (room : ℕ) (prefix middle : List ℕ) (n m : ℕ) (text : List ℕ) → 272 ≤ room
     → length prefix + length middle ≤ 200 → n < 1000000000 → m < 1000000000
     → text ≡ ((prefix ++ decimal n) ++ number_text middle m) → length text ≤ room
@@ -89,6 +90,7 @@ module _ (digest : List ℕ → List ℕ) (size_is : (text : List ℕ) → lengt
       let root = length-root_over digest size_is 64 (held_pairs m) in
       rw length-append (omega (arith, format_short m.format, length-head m.format m.f m.length, root))
 
+  -- the two texts in which metadata collide have at most 65 bytes each
   pub texts_short : (a b : BlobMetadata) (left right : List ℕ) → AreDigestedFor digest a b left right → (length left ≤ 65) × (length right ≤ 65)
   texts_short a b left right (inl apart) = (omega (arith, ap length apart.1, identifier_short a), omega (arith, ap length apart.2, identifier_short b))
   texts_short a b left right (inr meet) = trees_short (held_pairs a) (held_pairs b) left right meet.1

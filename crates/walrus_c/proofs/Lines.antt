@@ -33,6 +33,7 @@ module _ (digest : List ℕ → List ℕ) where
       (omega (arith, there, is.0, symbols_most p.axis m.f most)) refl
   verdict_short m p other most is = omega arith
 
+  -- what `check` tells has room in 272 bytes
   pub checked : (id : BlobId) (input : List ℕ) → Tells digest (checking digest id) input 272
   checked id input rejects r spells text is = omega (arith, ap length is.3)
   checked id input lacks r spells text (inl none) = omega (arith, ap length none.1)
@@ -43,6 +44,7 @@ module _ (digest : List ℕ → List ℕ) where
 
   -- ---- verify
 
+  -- what `verify` tells has room in 272 bytes
   pub verified : (a : Audit) (input : List ℕ) → a.count ≤ 1000 → length input ≤ 134217728
       → Tells digest (verifying digest a) input 272
   verified a input few within succeeds r spells text is = omega (arith, ap length is.2)

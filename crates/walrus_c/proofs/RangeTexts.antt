@@ -123,6 +123,7 @@ module _ (digest : List ℕ → List ℕ) (size_is : (text : List ℕ) → lengt
   unfolding identifier_of
   id_long id payloads m is = ap length is.0.4.1.identifier ∙ size_is _
 
+  -- what `recover` tells has room in `recovered_most` bytes
   pub recovered : (id : BlobId) (axis : Axis) (index : ℕ) (input : List ℕ)
       → Tells digest (recovering digest id axis index) input recovered_most
   recovered id axis index input succeeds r spells text is =
@@ -218,6 +219,7 @@ module _ (digest : List ℕ → List ℕ) (size_is : (text : List ℕ) → lengt
       let same : length openings * opening_most (length input) ≡ count * opening_most (length input) = ap (λ n. n * opening_most (length input)) are.many in
       omega (arith, ap length is, long, same)
 
+  -- what `challenge` tells has room in as many of the longest openings as are asked for
   pub challenged : (a : Audit) (input : List ℕ) → 1 ≤ a.count
       → Tells digest (challenging digest a) input (a.count * opening_most (length input))
   challenged a input some succeeds r spells text is = draws_short a r input spells.0 spells.1 a.count text is
@@ -278,6 +280,7 @@ missing_few Column f s k j few some (of_member lengths has within misses) =
     omega (arith, misses.before, member_within (column_bytes f s) lengths k within, has.index.size.room, few)
 
 module _ (digest : List ℕ → List ℕ) where
+  -- what `member` tells has room in `member_most` bytes
   pub member_read : (id : BlobId) (k : ℕ) (input : List ℕ) → Tells digest (unbundling digest id k) input member_most
   member_read id k input succeeds r spells text (m, own, (lengths, index, member)) =
       let s = symbol_size m.f m.length in

@@ -9,5 +9,6 @@ ranged (challenge word place beacon amount audit is) = is.symbol_count.1
 ranged (verify word place beacon amount audit is) = is.symbol_count.2
 ranged other = tt
 
+-- the numbers of a task that words ask for are in range
 pub in_range : {words : List (List ℕ)} {task : Task} → IsTask words task → InRange task
 in_range asked = ranged asked.asks.row
