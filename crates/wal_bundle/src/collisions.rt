@@ -118,7 +118,7 @@ fn bundle_again(alloc: Global, f: u32, members: &Payloads) -> Result<Bytes, Allo
 }
 
 /// Two texts with one digest, from payloads that tell of member k what is not so of the bundle with
-/// this identifier: those of the two metadata where these differ, and else those that a column has
+/// this identifier: those of the two metadata if these differ, and else those that a column has
 /// with the bundle's own.
 ///
 /// It fails only for want of memory.
@@ -214,7 +214,7 @@ fn collide_columns<H: Hash32>(
 }
 
 /// Two texts with one digest, from two lists of payloads that tell two different members k of one
-/// identifier: those of the two metadata where these differ, and else those that two different
+/// identifier: those of the two metadata if these differ, and else those that two different
 /// columns have.
 ///
 /// It fails only for want of memory.

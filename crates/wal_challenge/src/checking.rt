@@ -67,7 +67,7 @@ fn first_wrong<H: Hash32>(
 }
 
 /// Checks the claims that a shard answers the first `count` draws of a beacon with, in order, for
-/// the blob that the metadata identifies. A claim answers its draw where its target is the sliver
+/// the blob that the metadata identifies. A claim answers its draw if its target is the sliver
 /// of the crossing axis whose index is the drawn place, its cross is the index of the shard's own
 /// sliver of the drawn axis, and the metadata commits it. Takes no memory.
 pub fn check_answer<H: Hash32>(

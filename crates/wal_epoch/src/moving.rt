@@ -140,7 +140,7 @@ impl Moving {
 
     /// Ends the change: the next committee serves.
     ///
-    /// The first that applies: `Waiting` where fewer than `2f + 1` shards are ready, `NoRoom`, with
+    /// The first that applies: `Waiting` if fewer than `2f + 1` shards are ready, `NoRoom`, with
     /// the same state.
     pub fn finish(self) -> Result<Serving, (Moving, FinishError)>
         ensures { FinishesEpoch self result }

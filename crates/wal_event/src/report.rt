@@ -449,7 +449,7 @@ fn put_body(alloc: Global, whole: &mut String, line: &Line) -> Result<(), AllocE
 
 /// The text of a line, which ends with a newline: the name of the event, what the line shows of it,
 /// and the word, with a space between. Numbers are decimal, bytes are in lower-case digits, with a
-/// dash where there are none.
+/// dash if there are none.
 #[tactic(auto, unfolding(crate::specs::Report::line_text))]
 pub fn line_text(alloc: Global, line: &Line) -> Result<String, AllocError>
     ensures { IfOk result (λ t. string_bytes t ≡ text.line_text line.now) }

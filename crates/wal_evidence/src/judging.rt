@@ -56,8 +56,8 @@ fn judge<H: Hash32>(
     judge_blob::<H>(alloc, m, blob)
 }
 
-/// The verdict on evidence, from its metadata and basis alone: whoever has them comes to the same
-/// one.
+/// The verdict on evidence, from its metadata and basis alone, so it is the same for whoever has
+/// them.
 ///
 /// From slivers the blob is decoded and encoded again (the Walrus paper, "Red Stuff", reading). A
 /// proof of bad encoding is a rejection.

@@ -54,7 +54,7 @@ pub fn slivers<H: Hash32>(
     collide_lists::<H>(alloc, &left, &right, size)
 }
 
-/// Slivers of one axis and index that a metadata commits have one root, whatever their bytes: where
+/// Slivers of one axis and index that a metadata commits have one root, whatever their bytes: if
 /// they differ, [`slivers`] gives two texts.
 pub fn held_slivers_meet<H: Hash32>()
     ensures { (m : BlobMetadata) (axis : Axis) (index : ℕ) (a b : List ℕ) → IsMetadata m

@@ -17,7 +17,7 @@ use wal_tree::{Hash32, collide_lists};
 
 /// Two texts with one digest, from two blobs that differ and have one identifier, each for its
 /// shape: the formats and the numbers of faults need not agree. They are those of the two metadata
-/// where these differ, and else those of the first row of the extended matrices that differs.
+/// if these differ, and else those of the first row of the extended matrices that differs.
 ///
 /// It fails only for want of memory.
 pub fn blobs<H: Hash32>(

@@ -49,7 +49,7 @@ fn collide_basis<H: Hash32>(
 }
 
 /// Two texts with one digest, from a blob and evidence for its identifier that does not lead to it:
-/// those of the two metadata where these differ, and else those that a false sliver or a false
+/// those of the two metadata if these differ, and else those that a false sliver or a false
 /// opening of the evidence has with the blob's own.
 ///
 /// So `f + 1` held primary slivers of distinct indices give back the blob that was encoded

@@ -41,7 +41,7 @@ pub fn evaluate(buffer: &mut [u8], width: usize, level: usize, index: usize, wan
 }
 
 /// Replaces the values of polynomials at the first `known` points of a block by their first
-/// coefficients, of which the runs from `known` on have the others. It undoes `evaluate`, where all
+/// coefficients, of which the runs from `known` on have the others. It undoes `evaluate`, if all
 /// points are known.
 pub fn restore(buffer: &mut [u8], width: usize, level: usize, index: usize, known: usize)
     requires long { length buffer.old ≡ 2 ^ level * (2 * width) }

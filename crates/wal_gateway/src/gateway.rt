@@ -219,10 +219,10 @@ impl<H: Hash32> Gateway<H> {
 
     /// So many bytes of a blob from a place on, by what shards sent for it.
     ///
-    /// Where the identifier is in the list, the answer is from the blob there, which becomes the
+    /// If the identifier is in the list, the answer is from the blob there, which becomes the
     /// one last used, and the payloads are not looked at. Else they are read, and a blob that they
-    /// give enters the list, also where the range is not in it; the one that was used before all
-    /// others goes, where the list is full.
+    /// give enters the list, also if the range is not in it; the one that was used before all
+    /// others goes, if the list is full.
     pub fn get(
         &mut self,
         alloc: Global,

@@ -47,7 +47,7 @@ impl Gf {
         self.pow(65534)
     }
 
-    /// The product of `e` times this element, by squaring; 1 where `e` is 0.
+    /// The product of `e` times this element, by squaring; 1 if `e` is 0.
     pub fn pow(self, e: u32) -> Gf
         ensures { result.0 ≡ power self.0 e }
     {

@@ -14,12 +14,12 @@ pub fn stands_once()
     ensures { StandsOnce }
 {}
 
-/// Where a keep had room for changes, and for more behind them, it had room for all.
+/// If a keep had room for changes, and for more behind them, it had room for all.
 pub fn room_in_parts()
     ensures { RoomInParts }
 {}
 
-/// What is acknowledged stays. Where each crash of a disk goes on after some changes, so does each
+/// What is acknowledged stays. If each crash of a disk goes on after some changes, so does each
 /// crash at any moment since, over any calls of which each keeps what was held:
 /// [`crate::Journal::open`], and every call of a journal.
 pub fn acknowledged_stays<D: Disk>()

@@ -291,7 +291,7 @@ fn strips_before(size: usize, width: usize) -> usize
 /// The SHA-256 digests of pieces, each behind a prefix byte, made a strip of all of them at a time:
 /// `width` bytes of each.
 ///
-/// Takes memory for one strip, and for the hash values. Where it is not there, nothing is said of
+/// Takes memory for one strip, and for the hash values. If it is not there, nothing is said of
 /// `out`.
 pub fn digest_strips<P: Pieces>(
     alloc: Global,

@@ -88,8 +88,8 @@ impl Ledger {
 
     /// Registers a blob until an epoch, or extends its registration.
     ///
-    /// The first that applies: `Past` where `until` does not exceed the writing epoch,
-    /// `MovingExtension` where the epoch is changing and the blob is live, `NoRoom`. A refusal
+    /// The first that applies: `Past` if `until` does not exceed the writing epoch,
+    /// `MovingExtension` if the epoch is changing and the blob is live, `NoRoom`. A refusal
     /// changes nothing.
     pub fn register(&mut self, id: &BlobId, until: u32) -> RegisterAnswer
         ensures answer { Registers self.old id.now until result self.new }
@@ -141,8 +141,8 @@ impl Ledger {
     /// Enters, by a shard of the writing epoch's committee, that its node holds the slivers of a
     /// blob for all of its shards. Each of them counts.
     ///
-    /// The first that applies: `Unregistered` where the blob is not live, `Expires` where it is not
-    /// kept beyond the writing epoch, `Already` where this node acknowledged it in this epoch,
+    /// The first that applies: `Unregistered` if the blob is not live, `Expires` if it is not
+    /// kept beyond the writing epoch, `Already` if this node acknowledged it in this epoch,
     /// `NoRoom`.
     pub fn ack(&mut self, shard: u16, id: &BlobId) -> AckAnswer
         requires { shard < committee_size self.old.log.f }
@@ -183,7 +183,7 @@ impl Ledger {
     /// Enters, by a shard of the next committee, that its node holds what it must for all of its
     /// shards. Each of them counts.
     ///
-    /// The first that applies: `Already` where this node is ready, `NoRoom`.
+    /// The first that applies: `Already` if this node is ready, `NoRoom`.
     pub fn ready(&mut self, shard: u16) -> ReadyAnswer
         requires moving { is_moving self.old.log ≡ true }
         requires shard { shard < committee_size self.old.log.f }

@@ -57,7 +57,7 @@ fn settle<H: Hash32>(
 /// Recovers the sliver of this axis and index (the Walrus paper, "Red Stuff", recovery).
 ///
 /// The first opening of each cross that holds is taken, in order, up to the number of symbols of a
-/// sliver. Where there are fewer, the answer is their number. Where the codeword through them has
+/// sliver. If there are fewer, the answer is their number. If the codeword through them has
 /// the metadata's root, it is the sliver; else the openings that were taken are a proof of bad
 /// encoding.
 pub fn recover<H: Hash32>(

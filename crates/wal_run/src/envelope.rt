@@ -49,7 +49,7 @@ fn laid_room(shape: &Shape) -> u32
     shape.rows() * LONG
 }
 
-/// Room for the envelope of a blob's metadata, and for that of the first symbols of a column where
+/// Room for the envelope of a blob's metadata, and for that of the first symbols of a column if
 /// they are short.
 pub fn room_for(shape: &Shape, metadata: MetaRef<'_>) -> u32
     ensures metadata { 8 + length (metadata_text (metadata_shown metadata.entry)) ≤ result }

@@ -41,7 +41,7 @@ pub fn add_short(text: &mut Vec<u8>, have: u32, need: u32) -> Result<(), AllocEr
     add_numbers(text, b"short ", u64::from(have), b" of ", u64::from(need))
 }
 
-/// Appends bytes in lower-case digits, and a dash where there are none.
+/// Appends bytes in lower-case digits, and a dash if there are none.
 pub fn add_digits(alloc: Global, line: &mut Vec<u8>, bytes: &[u8]) -> Result<(), AllocError>
     ensures { OnOk result (line.new.items ≡ line.old.items ++ hex_text bytes.now) }
 {

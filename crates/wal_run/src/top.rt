@@ -72,32 +72,34 @@ pub fn run<H: Hash32, S: Source, K: Sink>(
     source: &mut S,
     sink: &mut K,
 ) -> u8
-    // What was taken, what was written, and the status.
+    // `ends` says what was taken, what was written, and what the status is.
     ensures ends { Ends H.digest (map string_bytes words.now.items)
         (seen S.Source source.old source.new K.Sink sink.old sink.new) result }
-    // Counts of faults never fall.
+    // The counts of faults never fall.
     ensures later_source { S.faults source.old ≤ S.faults source.new }
     ensures later_sink { K.faults sink.old ≤ K.faults sink.new }
 
-    // Consequences.
+    // The clauses below follow from `ends`.
     // THE HEADLINE: a schedule is replayed as a safe run, whatever faulty shards and writers send.
     ensures headline { Headline H.digest (map string_bytes words.now.items)
         (seen S.Source source.old source.new K.Sink sink.old sink.new) result }
-    // What the status shows, by the table of causes.
+    // The table of causes says what the status shows.
     ensures causes { Causes H.digest (map string_bytes words.now.items)
         (seen S.Source source.old source.new K.Sink sink.old sink.new) result }
-    // Where the source tells its bytes, whatever answer they have was told, or a front of it for
-    // want of memory or by a fault; of a collision the two texts are not compared, but what stands
-    // before is.
+    // If the source tells its bytes, whatever answer they have was told, or a prefix of the answer
+    // for want of memory or because of a fault. The two texts of a collision are not compared, but
+    // what stands before them is.
     ensures exact { IsExact H.digest (map string_bytes words.now.items)
         (seen S.Source source.old source.new K.Sink sink.old sink.new) result }
-    // And so was the usage, whatever the source has.
+    // Words that ask for nothing have the status of usage, whatever bytes the source has, but for
+    // want of memory and a sink that failed.
     ensures nothing_asked { IsUsage (map string_bytes words.now.items)
         (seen S.Source source.old source.new K.Sink sink.old sink.new) result }
-    // Where neither count of faults rose, the whole answer was written, or memory ran out.
+    // If neither count of faults rose, the whole answer was written, or memory ran out.
     ensures complete { IsComplete H.digest (map string_bytes words.now.items)
         (seen S.Source source.old source.new K.Sink sink.old sink.new) result }
-    // The bytes of a source have at most one answer; the two texts of a collision are not compared.
+    // The words and the bytes of a source have at most one answer. The two texts of a collision are
+    // not compared.
     ensures only { HasOneAnswer H.digest (map string_bytes words.now.items) }
 {
     answer::<H, S, K>(alloc, words, source, sink)

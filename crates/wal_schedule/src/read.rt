@@ -228,9 +228,9 @@ fn schedule_in(alloc: Global, value: &Value) -> Result<Schedule, ScheduleError>
 /// Reads a schedule.
 ///
 /// It is a JSON object with the keys `f` (1 to 333), `epoch` (0 to 65,535), `faulty` (the faulty
-/// shards, ascending), `events` (a list of objects), and possibly `format` (1 or 2, and 1 where it
+/// shards, ascending), `events` (a list of objects), and possibly `format` (1 or 2, and 1 if it
 /// is missing) and `owners` (the node of each of the `3f + 1` shards, and the shard's own number
-/// where it is missing). With a faulty shard every shard of its node is faulty. A key that is
+/// if it is missing). With a faulty shard every shard of its node is faulty. A key that is
 /// repeated has its last value. Of several causes of a refusal the first in the order of
 /// `ScheduleError` is told.
 pub fn read_schedule(alloc: Global, text: &[u8]) -> Result<Schedule, ScheduleError>

@@ -27,7 +27,7 @@ use wal_shard::{AckRefusal, PutAnswer};
 /// | 6 | there are too few free pages | needed | free |
 /// | 7 | there was no memory | 0 | 0 |
 /// | 8 | the blob is not kept beyond the epoch | 0 | 0 |
-/// | 9 | malformed | 1 to 4 its fault, 5 no request, 6 no shard, 7 too long | a bad field's place |
+/// | 9 | malformed | 1 to 4 by fault, 5 no request, 6 no shard, 7 too long | a bad field's place |
 /// | 10 | the ledger has no room | 0 | 0 |
 /// | 11 | the part is held | 0 | 0 |
 /// | 12 | the shard's node said so before | 0 | 0 |

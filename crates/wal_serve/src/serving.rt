@@ -151,8 +151,8 @@ impl<H: Hash32, K: Keep> Session<'_, H, K> {
 ///
 /// | Request | What is done | Answers |
 /// |---|---|---|
-/// | metadata, sliver, proof | it is put to the shard | one reply, or a clash, after which serving ends |
-/// | read, symbol | nothing | what the shard holds of it, and a reply with the number of frames |
+/// | metadata, sliver, proof | it is put to the shard | one reply, or a clash that ends serving |
+/// | read, symbol | nothing | what the shard holds of it in frames, and a reply with their number |
 /// | ack, attest | the shard is asked, and then the ledger for this shard | one reply |
 /// | forget | the shard is asked | one reply |
 /// | register entry, ack entry, attest entry | the ledger is asked | one reply |

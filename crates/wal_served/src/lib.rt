@@ -9,7 +9,7 @@ ghost use Rattle.wal_served.specs.Steps.{EveryRequest, EveryServing};
 use wal_tree::Hash32;
 
 /// Whatever the table of `serve` has for a request, what the shard answers and becomes is a step of
-/// its event, where there is room, and the answer is the one that belongs to the step's line. What
+/// its event, if there is room, and the answer is the one that belongs to the step's line. What
 /// is asked of it has the true reply, and a refusal changes nothing. So up to the first entry for
 /// the very shard that serves, all of it is one run.
 pub fn every_request<H: Hash32>()
@@ -18,7 +18,7 @@ pub fn every_request<H: Hash32>()
 {}
 
 /// What is answered to a request about an identifier rests on what was given about that identifier
-/// alone: where two states are alike at it, they answer alike and are alike then, and what regards
+/// alone: if two states are alike at it, they answer alike and are alike then, and what regards
 /// another one leaves them alike. So what was served about others may be left out, a reply to a
 /// reader rests on the parts that it shows, and a shard that is fed with the entries and then the
 /// parts that another one has come to is alike to that one.

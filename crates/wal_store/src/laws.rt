@@ -48,7 +48,7 @@ pub fn calls_in_parts()
 {}
 
 /// What [`Keep::copy`] gives for a range, then for the one after it, and so on, put one after
-/// another, is what one call gives for all of them; and it is the part, where they begin at its
+/// another, is what one call gives for all of them; and it is the part, if they begin at its
 /// front and have as many bytes as [`Keep::size`] says.
 pub fn copies_in_turn()
     ensures join { CopiesJoin }

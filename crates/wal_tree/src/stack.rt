@@ -45,7 +45,7 @@ impl Stack {
         self.height = carry::<H>(&mut self.levels, self.height, entry);
     }
 
-    /// The root over the leaves that were taken, or the empty entry where there was none.
+    /// The root over the leaves that were taken, or the empty entry if there was none.
     pub fn root<H: Hash32>(&self) -> Digest
         ensures { result ≡ climb H.digest self.now [] }
     {

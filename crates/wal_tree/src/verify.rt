@@ -6,7 +6,7 @@ use crate::hash::{Digest, Hash32};
 use crate::node::leaf_digest;
 
 /// Whether the path leads from the leaf with this content, at this place of `count` leaves, to the
-/// root. It is false where the place is not below `count`, and where the path has not one digest of
+/// root. It is false if the place is not below `count`, and if the path has not one digest of
 /// 32 bytes for each level above the leaves.
 pub fn path_holds<H: Hash32>(
     root: &Digest,

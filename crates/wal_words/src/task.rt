@@ -314,7 +314,7 @@ fn task_in(matches: &ArgMatches<'_>) -> Option<Task>
     task_of(values, &options)
 }
 
-/// The task that the words ask for, the program's own name left out: `None` where they ask for
+/// The task that the words ask for, the program's own name left out: `None` if they ask for
 /// nothing.
 pub fn read_task(alloc: Global, words: &Vec<String>) -> Result<Option<Task>, AllocError>
     ensures found { IfOk result (λ o. IfSome o (λ t. IsTask (map string_bytes words.now.items) t)) }

@@ -132,9 +132,8 @@ fn take_events<H: Hash32, K: Sink>(
 /// Runs a schedule from its first state, and writes the line of each event as it comes. After a
 /// line that is a collision no further event is taken.
 ///
-/// `WriteFault` comes only where the sink's count of faults rose, and `Memory` where memory ran
-/// out.
-/// What was written then is a front of the report.
+/// `WriteFault` comes only if the sink's count of faults rose, and `Memory` only if memory ran
+/// out. What was written then is a prefix of the report.
 pub fn replay<H: Hash32, K: Sink>(
     alloc: Global,
     schedule: &Schedule,

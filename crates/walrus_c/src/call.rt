@@ -30,7 +30,7 @@ pub fn run_over(alloc: Global, words: &Vec<String>, input: &[u8], room: &mut [u8
     }
 }
 
-/// The status of a call: that of the run, where its text has room or memory ran out.
+/// The status of a call: that of the run, if its text has room or memory ran out.
 pub fn status_told(status: u8, count: u64, room: u64) -> u8
     ensures fits { count ≤ room → result ≡ status }
     ensures no_room { room < count → (status ≡ 5 → ⊥) → result ≡ 7 }

@@ -80,7 +80,7 @@ pub fn room_for(alloc: Global, words: &Vec<String>, count: u64) -> u64
     }
 }
 
-/// What is told where there are no words, by the status that tells why.
+/// What is told if there are no words, by the status that tells why.
 pub fn untold(status: u8) -> u64
     ensures memory { status ≡ 5 → result ≡ no_memory_told }
     ensures words { status ≡ 11 → result ≡ none_given }
