@@ -29,7 +29,12 @@ pub struct Moving {
 impl Model for Moving {
     ghost Value = { MovingState };
 
-    ghost view = { λ m. record { ledger = m.ledger; faulty_now = m.faulty_now; faulty_next = m.faulty_next; stays = m.stays } };
+    ghost view = { λ m. record {
+      ledger = m.ledger;
+      faulty_now = m.faulty_now;
+      faulty_next = m.faulty_next;
+      stays = m.stays;
+    } };
 
     ghost invariant = { λ m. IsMoving m.ledger.log m.faulty_now m.faulty_next m.stays };
 }
@@ -43,7 +48,12 @@ impl Moving {
         stays: Shards,
     ) -> Moving
         requires { IsMoving ledger.log faulty_now faulty_next stays }
-        ensures { result ≡ record { ledger = ledger; faulty_now = faulty_now; faulty_next = faulty_next; stays = stays } }
+        ensures { result ≡ record {
+          ledger = ledger;
+          faulty_now = faulty_now;
+          faulty_next = faulty_next;
+          stays = stays;
+        } }
     {
         Moving {
             ledger,

@@ -29,7 +29,11 @@ fn collide_basis<H: Hash32>(
     matrix: &Encoded,
     basis: &Basis,
 ) -> Result<Collision, AllocError>
-    requires shape { matrix.now.shape ≡ record { format = (metadata_shown m).format; f = (metadata_shown m).f; length = (metadata_shown m).length } }
+    requires shape { matrix.now.shape ≡ record {
+      format = (metadata_shown m).format;
+      f = (metadata_shown m).f;
+      length = (metadata_shown m).length;
+    } }
     requires fit { IsMetadata (metadata_shown m) }
     requires held { IsHeldBy H.digest (metadata_shown m) basis.now }
     requires other { (blob : List ℕ)

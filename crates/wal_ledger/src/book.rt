@@ -19,7 +19,11 @@ pub(crate) struct Book {
 impl Model for Book {
     ghost Value = { BookState };
 
-    ghost view = { λ b. record { entries = b.entries.items; links = b.links.items; spare = b.room - vec_len b.entries } };
+    ghost view = { λ b. record {
+      entries = b.entries.items;
+      links = b.links.items;
+      spare = b.room - vec_len b.entries;
+    } };
 
     ghost invariant = { λ b. (vec_len b.entries ≤ b.room) × (b.room ≤ vec_capacity b.entries)
         × (b.room < 2 ^ 32) × (vec_len b.links ≡ vec_len b.entries)
@@ -65,7 +69,11 @@ impl Book {
     /// Appends an entry with its link.
     pub(crate) fn push(&mut self, entry: Entry, link: u32)
         requires { 0 < self.old.spare }
-        ensures { self.new ≡ record { entries = self.old.entries ++ entry ∷ []; links = self.old.links ++ link ∷ []; spare = self.old.spare - 1 } }
+        ensures { self.new ≡ record {
+          entries = self.old.entries ++ entry ∷ [];
+          links = self.old.links ++ link ∷ [];
+          spare = self.old.spare - 1;
+        } }
     {
         match self.entries.push(entry) {
             Ok(()) => (),

@@ -77,7 +77,10 @@ impl Ledger {
         requires few_faults { f ≤ 333 }
         requires epoch { epoch ≤ 65535 }
         requires owners { are_owners (committee_size f) owners ≡ true }
-        ensures value { IfOk result (λ ledger. ledger ≡ record { log = record { f = f; first = epoch; owners = owners; entries = [] }; spare = room }) }
+        ensures value { IfOk result (λ ledger. ledger ≡ record {
+          log = record { f = f; first = epoch; owners = owners; entries = [] };
+          spare = room;
+        }) }
         ensures lawful { IfOk result (λ ledger. IsLawful ledger.log) }
     {
         Ok(Ledger {

@@ -106,7 +106,12 @@ impl Model for Table {
 
     ghost Value = { Rows };
 
-    ghost view = { λ t. record { ids = ids_of t.ids.items t.order.items; rows = map (row_of t.rows.items) t.order.items; live = ids_of t.ids.items t.live.items; spare = t.room - vec_len t.ids } };
+    ghost view = { λ t. record {
+      ids = ids_of t.ids.items t.order.items;
+      rows = map (row_of t.rows.items) t.order.items;
+      live = ids_of t.ids.items t.live.items;
+      spare = t.room - vec_len t.ids;
+    } };
 
     ghost invariant = { λ t. IsTable t.ids.items t.rows.items t.order.items t.live.items
         × (vec_len t.ids ≤ t.room) × (t.room < 2 ^ 32) × (t.room ≤ vec_capacity t.ids)
@@ -225,7 +230,9 @@ impl Table {
 
     /// Drops from the live ones those whose `until` is not after the reading epoch.
     pub(crate) fn retire(&mut self, epoch: u32)
-        ensures { self.new ≡ record self.old { live = filter (λ q. nat_lt epoch (row_in self.old q).until) self.old.live } }
+        ensures { self.new ≡ record self.old {
+          live = filter (λ q. nat_lt epoch (row_in self.old q).until) self.old.live;
+        } }
     {
         let rows = self.rows.as_slice();
         self.live.retain(|number| until_of(rows, *number) > epoch);

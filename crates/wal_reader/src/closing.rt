@@ -28,7 +28,10 @@ fn from_slivers<H: Hash32>(
 ) -> Result<ReadAnswer, AllocError>
     requires f { work.f ≡ metadata.f }
     requires held { AreHeld H.digest metadata collected.indices.items collected.joined.items }
-    ensures { IfOk result (IsAnswerOf H.digest (record { metadata = metadata; basis = Slivers collected.indices.items collected.joined.items })) }
+    ensures { IfOk result (IsAnswerOf H.digest (record {
+      metadata = metadata;
+      basis = Slivers collected.indices.items collected.joined.items;
+    })) }
 {
     let Collected { indices, joined } = collected;
     let basis = Basis::Slivers {

@@ -173,7 +173,11 @@ impl<'a> MetaRef<'a> {
 
     /// The shape of the blob.
     pub fn shape(&self) -> Shape
-        ensures value { result ≡ record { format = (metadata_shown self.now).format; f = (metadata_shown self.now).f; length = (metadata_shown self.now).length } }
+        ensures value { result ≡ record {
+          format = (metadata_shown self.now).format;
+          f = (metadata_shown self.now).f;
+          length = (metadata_shown self.now).length;
+        } }
         ensures metadata { IsMetadata (metadata_shown self.now) }
     {
         match Shape::new(self.f(), self.length()) {

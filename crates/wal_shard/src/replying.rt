@@ -99,7 +99,11 @@ fn write_opening<H: Hash32>(
     requires room { 370 + size ≤ out.old.spare }
     ensures written { out.new
         ≡ appended out.old (envelope shard (frame_text (Opening id.0 axis index
-        (record { cross = cross; symbol = region size word.now index; path = path_over H.digest size word.now index })))) }
+        (record {
+          cross = cross;
+          symbol = region size word.now index;
+          path = path_over H.digest size word.now index;
+        })))) }
     ensures room { out.old.spare ≤ out.new.spare + (370 + size) }
 {
     let mut siblings = PathBuf::create();

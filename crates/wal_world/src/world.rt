@@ -42,7 +42,12 @@ impl<H: Hash32> Model for World<H> {
 
     ghost coded = { world_code };
 
-    ghost view = { λ w. record { state = world_of w.network; room = spare_of w.network; dead = w.dead; ended = w.ended } };
+    ghost view = { λ w. record {
+      state = world_of w.network;
+      room = spare_of w.network;
+      dead = w.dead;
+      ended = w.ended;
+    } };
 
     ghost invariant = { λ w. IsWorld H.digest w.network w.dead };
 }
