@@ -33,9 +33,9 @@ pub record HoldsBoth (digest : List ℕ → List ℕ) (metadata : BlobMetadata)
   pub secondary_held : HoldsSliver digest metadata Secondary
       (held_index metadata.format metadata.f Secondary shard) secondary
 
--- the opening shows what was drawn: the symbol at the drawn place of the codeword of the shard's
--- own sliver of the drawn axis, which is also a symbol of the codeword of the crossing sliver of
--- that index, and the siblings of that place
+-- the opening shows what was drawn: as an opening of the crossing sliver of that index, the symbol
+-- at the drawn place of the codeword of the shard's own sliver of the drawn axis, and the siblings
+-- of that place
 pub record ShowsDrawn (digest : List ℕ → List ℕ) (metadata : BlobMetadata) (shard : ℕ)
     (primary secondary : List ℕ) (draw : Draw) (opening : Opening) : Type 0 where
   pub cross : opening.cross ≡ drawn_index metadata shard draw

@@ -122,7 +122,7 @@ frame_text (RegisterEntry id until) = 0x40 ∷ (id ++ number_text w32 until)
 frame_text (AckEntry shard id) = 0x41 ∷ (number_text w16 shard ++ id)
 frame_text (AttestEntry shard id) = 0x42 ∷ (number_text w16 shard ++ id)
 
--- an envelope: the byte 57, the sender, the length of the payload, and the payload
+-- an envelope: the byte 0x57, the sender, the length of the payload, and the payload
 abbrev pub envelope : ℕ → List ℕ → List ℕ
 envelope sender payload =
     0x57 ∷ (number_text w16 sender ++ number_text w32 (length payload) ++ payload)

@@ -9,7 +9,7 @@ use Rattle.wal_gateway.specs.declared.request.Asked.{Asked}
 use Rattle.wal_gateway.specs.declared.request.Request.{Request}
 use Rattle.wal_gateway.specs.Getting.{Cache, Get, asked}
 
--- 41 bytes that begin with 67
+-- 41 bytes that begin with 67 (0x43)
 abbrev pub is_request : List ℕ → Bool
 is_request payload = nat_eq (length payload) 41 && nat_eq (slice_index payload 0) 67
 

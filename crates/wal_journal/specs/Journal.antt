@@ -62,8 +62,8 @@ FitsEitherWay limit held changes call image =
     Accepts image changes
     ⊎ (HadRoomForPuts limit held (call ∷ []) × Accepts image (changes ++ call ∷ []))
 
--- why a put is refused: it needs more bytes than are free on the disk; or, if enough are free, as
--- the keep answers
+-- why a put is refused: it needs more bytes than are free on the disk; or, if enough are free, the
+-- keep is full, or memory ran out
 abbrev pub IsPutWhy : ℕ → ℕ → Option ℕ → Bool → Contents → BlobId → List ℕ → Why → Type 0
 IsPutWhy len tail limit may_want contents id bytes (DiskFull needed free) =
     (needed ≡ 39 + length bytes) × (free ≡ len - tail - 1) × (free < needed)

@@ -84,9 +84,10 @@ pub record Refuses {D K : Type 0} {disk_ghosts : _} {keep_ghosts : _} (now : D �
   pub refused : IsPutWhy (length (now new.disk)) new.tail
       (most new.keep) may_want (contents new.keep) id bytes why
 
--- The disk failed during one of the puts: those before it are made, and each crash leaves an image
--- that goes on after them; the one fits on the disk, the keep had room for it and holds it, and it
--- may be made or not. Only bytes of their records and of the gate behind them may have changed.
+-- The disk failed during one of the puts: those before it are made, and if the disk tells what a
+-- crash leaves, each crash from now on leaves an image that goes on after them; the one fits on the
+-- disk, the keep had room for it and holds it, and it may be made or not. Only bytes of their
+-- records and of the gate behind them may have changed.
 pub record StopsIn {D K : Type 0} {disk_ghosts : _}
     {keep_ghosts : _} (now : D → List ℕ) (faults : D → ℕ)
     (tells : Bool) (clock : D → ℕ) (since : D → ℕ → List ℕ → Type 0)

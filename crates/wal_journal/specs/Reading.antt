@@ -60,8 +60,8 @@ RoomInParts =
     → HadRoomForPuts limit held changes → HadRoomForPuts limit (after_calls held changes) more
     → HadRoomForPuts limit held (changes ++ more)
 
--- how the reading ends: at a closed gate, or at the first record that is bad or finds no room, with
--- what was read before
+-- how the reading ends, with what was read before: at a closed gate, or at the first record that is
+-- bad or finds no room; or anywhere, if the disk failed or memory ran out
 abbrev pub Opens : Option ℕ → Bool → List ℕ → Contents → Result ℕ OpenFault → Type 0
 Opens limit may_want now contents (Ok tail) =
     (changes : List Call) × ReadTo now tail contents changes × (get_or now tail 0 ≢ 1)

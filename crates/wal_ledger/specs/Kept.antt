@@ -41,7 +41,7 @@ pub record IsLawful (log : Log) : Type 0 where
   pub dated : is_moving log ≡ true → IsDated log
   pub members : All (λ entry. IsOfCommittee (committee_size log.f) entry.body) log.entries
 
--- what a call between two changes of the epoch leaves as it is
+-- what every call that neither begins nor finishes a change of the epoch leaves as it is
 pub record SameEpoch (old new : Log) : Type 0 where
   pub f : new.f ≡ old.f
   pub first : new.first ≡ old.first

@@ -156,7 +156,7 @@ IsSettling (line.Recover shard axis id recovering.Proof) = Unit {0}
 IsSettling said = IsDecided said
 
 -- RECOVERIES COMPLETE: a correct shard that recovers its sliver of a live blob from enough replies
--- gets it, or learns that the blob is badly encoded
+-- gets it, or learns that the blob is badly encoded, or the line is a collision
 abbrev pub IsRecoveryComplete : World → Event → Line → World → Type 0
 IsRecoveryComplete old (Recover at shard Secondary id replies) said new =
     is_correct at old shard ≡ true → is_live old.log id ≡ true → HearsSettled old id replies

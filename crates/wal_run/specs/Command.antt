@@ -163,7 +163,7 @@ abbrev pub IsRejection : (List ℕ → List ℕ) → Command → List ℕ → Li
 IsRejection digest command input text =
     Spelled digest command input (λ content. command.Rejects content text)
 
--- the input lacks something that the command needs, and this text says what
+-- the input has not what the command needs, or more than it takes, and this text says what
 abbrev pub IsLacking : (List ℕ → List ℕ) → Command → List ℕ → List ℕ → Type 0
 IsLacking digest command input text =
     HasNone digest command.grammar input text

@@ -33,7 +33,7 @@ pub record TakesSchedule (around : Around) (schedule : Schedule) : Type 0 where
 -- every schedule is replayed as a safe run: whatever faulty shards and writers send, two completed
 -- reads of a blob agree, and every sliver that is recovered has the committed root, or two texts
 -- with one digest are shown; while no committee has more than f faulty shards, the run keeps what
--- is certified, declares invalid only what is, and its reads complete
+-- is certified, declares invalid only what a proof refutes, and its reads complete
 pub record Headline (digest : List ℕ → List ℕ)
     (words : List (List ℕ)) (around : Around) (status : ℕ) : Type 0 where
   -- if the source tells its bytes, the status is 0, 10 or 5, and the report is that of the schedule

@@ -55,7 +55,7 @@ replies_at value = do
   items ← items_at (codes "replies") value
   replies_of items
 
--- one node for each of n shards; if the key is missing, each shard's own number
+-- the numbers under the key `owners`; if it is missing, the own number of each of n shards
 abbrev pub owners_at : ℕ → Data → Option (List ℕ)
 owners_at n value =
     if is_some (get (codes "owners") value) then list_at (codes "owners") value

@@ -56,8 +56,8 @@ abbrev pub alone : ℕ → ℕ → Contents → Committee
 alone f own contents = with_contents (empty_committee f (others f own)) own contents
 
 -- this world, but with the ledger that is served, and a committee in which only the shard that
--- serves is correct: the format in which blobs are written and the first completed answers, which
--- no request touches, are those of any world
+-- serves is correct: the format in which blobs are written, whether each committee had few faulty
+-- shards, and the first completed answers, which no request touches, are those of any world
 abbrev pub world_of : World → ServedState → World
 world_of world state = record world {
   log = state.ledger.log;

@@ -4,8 +4,8 @@ use Rattle.wal_shape.specs.declared.opening.Opening.{Opening}
 use Rattle.wal_shape.specs.declared.opening.OpeningRef.{OpeningRef}
 use Rattle.wal_shape.specs.Shape.{most_bytes}
 
--- the cross is the index of a sliver, and the symbol and the path are no longer than a blob may
--- need
+-- the cross is the index of a sliver, the symbol is no longer than a blob may be, and the path is
+-- at most ten whole digests
 pub record IsBody (opening : Opening) : Type 0 where
   pub cross : opening.cross ≤ 999
   pub symbol : length opening.symbol ≤ most_bytes

@@ -21,7 +21,7 @@ every_below (suc n) holds = every_below n holds && holds n
 abbrev pub among : List ℕ → ℕ → Bool
 among shards shard = list_any (λ other. nat_eq other shard) shards
 
--- owners give the node of each of n shards, by the shard's number, and there are at most n nodes
+-- owners give the node of each of n shards, by the shard's number; nodes have numbers below n
 abbrev pub are_owners : ℕ → List ℕ → Bool
 are_owners n owners = nat_eq (length owners) n && list_all (λ node. nat_lt node n) owners
 

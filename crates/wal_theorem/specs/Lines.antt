@@ -16,8 +16,8 @@ pub record AreLines (digest : List ℕ → List ℕ)
   -- this code (`Steps` says what an event does)
   pub run : IsRun (rules_of digest schedule.f) schedule states lines
   -- it is safe: two reads agree, and what is recovered has the committed root; while no committee
-  -- has more than f faulty shards, what is certified is kept, reads complete, and only what is
-  -- badly encoded is declared invalid
+  -- has more than f faulty shards, what is certified is kept, reads complete, and what is declared
+  -- invalid is refuted by a proof
   pub safe : IsSafe (rules_of digest schedule.f) schedule states lines
   -- its recoveries complete
   pub recovered : EachStep IsRecoveryComplete (first_state schedule) schedule.events states lines

@@ -1,4 +1,4 @@
--- The summary of a run: how often each thing was told.
+-- The summary of a run: what is counted of its lines.
 use Rattle.std.specs.Prelude.{◌≡◌, ℕ, ◌-◌, ◌^◌, min, List, length, sum_by, filter_map, Option, Some}
 use Rattle.std.specs.Prelude.{None, unwrap_or}
 use Rattle.std.specs.List.{reduce}

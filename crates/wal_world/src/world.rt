@@ -133,7 +133,7 @@ impl<H: Hash32> World<H> {
         }
     }
 
-    /// How many correct shards of its home committee hold a blob. It is 0 if the world is dead.
+    /// How many correct shards of its home committee are settled for a blob; 0 in a dead world.
     pub fn holders(&self, id: &BlobId) -> u32
         ensures alive { self.now.dead ≡ false → result ≡ holders self.now.state id.now }
         ensures dead { self.now.dead ≡ true → result ≡ 0 }

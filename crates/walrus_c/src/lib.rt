@@ -19,12 +19,11 @@ use room::{room_for, untold};
 use std::alloc::Global;
 use words::words_of;
 
-/// Does what the words ask for, with `input` as the input, and keeps the front of the text in
+/// Does what the words ask for, with `input` as the input, and keeps the beginning of the text in
 /// `output`.
 ///
 /// Each word has a zero byte behind it. `written` is how many bytes of `output` are the text's, and
-/// `needed` how many the whole text has; at status 5 that is the text so far, to which memory ran
-/// out.
+/// `needed` how many the whole text has; at status 5 the text ends where memory ran out.
 #[unsafe(no_mangle)]
 pub extern "C" fn walrus_run(
     alloc: Global,

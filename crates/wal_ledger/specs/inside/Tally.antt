@@ -51,7 +51,7 @@ HasLeast f owners own kind (Some quorum) = IsLeastQuorum f owners own kind quoru
 
 -- a tally is right for own entries and the owners of each epoch: its epoch is the last in which
 -- some node signed (0 if none did), its count is how many shards these nodes run, and its link
--- leads to each of their entries
+-- leads to entries by shards of exactly these nodes
 pub record IsTally (f : ℕ) (owners : ℕ → List ℕ) (own : List Entry) (kind : Kind)
     (entries : List Entry) (links : List ℕ) (tally : Tally) : Type 0 where
   pub shards : List ℕ

@@ -27,8 +27,8 @@ abbrev pub opposite : Side → Side
 opposite Now = Next
 opposite Next = Now
 
--- the shard of a side holds this from now on; all else of the network stays, but for the contents
--- of its tables and buffers
+-- the shard of a side holds this from now on; all else of the network stays, but for what its
+-- tables hold
 pub record Places {H : Type 0} (side : Side) (old : Network H)
     (shard : ℕ) (contents : Contents) (new : Network H) : Type 0 where
   pub format : new.format ≡ old.format
