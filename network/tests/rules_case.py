@@ -59,7 +59,7 @@ class RulesCase(unittest.TestCase):
         for it in (dict, len, list, lambda kept: [*reversed(kept)], lambda kept: kept.posters()):
             self.assertEqual(it(one.blobs), it(other.blobs))
         self.assertEqual(one.blobs.counts(), other.blobs.counts())
-        self.assertEqual(one.must_hold(), other.must_hold())
+        self.assertEqual([*one.must_hold()], [*other.must_hold()])
         ends = [(b"", 9, 9), (b"", one.epoch + 1, 9), (b"\1" * 32, 9, 1)]
         self.assertEqual([one.blobs.ending(*it) for it in ends], [other.blobs.ending(*it) for it in ends])
         self.assertEqual(other.blobs.draw(random.Random(1)) in one.blobs, bool(one.blobs))
