@@ -26,16 +26,19 @@ import test_bundle  # noqa: E402
 import test_challenge  # noqa: E402
 import test_gateway  # noqa: E402
 import test_image  # noqa: E402
+import test_member  # noqa: E402
 import test_refused_memory  # noqa: E402
 import test_replaying  # noqa: E402
 import test_rows  # noqa: E402
 import test_serving  # noqa: E402
+import test_unpack  # noqa: E402
 import test_verify  # noqa: E402
 from test_pages import needs_program  # noqa: E402
 from test_rooms import cases  # noqa: E402
 
 COMPILER = shutil.which("cc")
-OF_ROWS = (test_rows, test_bundle, test_challenge, test_verify, test_gateway, test_image, test_replaying, test_serving)
+OF_ROWS = (test_rows, test_bundle, test_member, test_challenge, test_verify, test_gateway, test_image, test_unpack)
+OF_ROWS += (test_replaying, test_serving)
 FLAGS = ("-std=c11", "-O1", "-g", "-Wall", "-Wextra", "-Werror", "-pedantic", f"-I{C}", "-pthread")
 ARCHIVE = LIBRARY.parent / "libwalrus.a"
 WRAPPED = [f"-Wl,--wrap={name}" for name in ("malloc", "realloc", "free")]

@@ -161,12 +161,12 @@ class Large(bench.Bench):
             self.in_time()
             await asyncio.sleep(0.2)
 
-    async def answers(self, network: Network, name: str) -> None:
-        """Starts a node and times until it answers."""
+    async def answers(self, network: Network, name: str, ended: str) -> None:
+        """Starts a node that has ended so, and times until it answers."""
         start = time.monotonic()
         await self.local.start_node(name)
         await self.figures(network, name, lambda told: True)
-        self.bound(f"{name} was killed, and answers after", time.monotonic() - start, LONGEST_START, "s")
+        self.bound(f"{name} {ended}, and answers after", time.monotonic() - start, LONGEST_START, "s")
 
     async def kill(self, network: Network) -> None:
         """Kills a node once a third is stored, and starts it again."""
@@ -174,7 +174,7 @@ class Large(bench.Bench):
         self.memory(KILLED)
         await self.local.end(KILLED, kill=True)
         await asyncio.sleep(1)
-        await self.answers(network, KILLED)
+        await self.answers(network, KILLED, "was killed")
 
     async def store(self, network: Network) -> None:
         async with asyncio.TaskGroup() as group:
@@ -233,6 +233,10 @@ class Large(bench.Bench):
             for name in sorted(it for it in self.local.processes if it.startswith("node-")):
                 held, now = await self.held_by(network, name), self.memory(name)
                 self.row(name, f"holds {held['blobs']} blobs, {held['bytes'] / 1e9:.2f} GB, resident {now:.0f} MB")
+            await self.local.end(NODES[0])
+            await self.answers(network, NODES[0], "was stopped with all that it holds")
+            await asyncio.sleep(COUNTED)
+            self.row(f"{NODES[0]} after this start", f"resident {self.memory(NODES[0]):.0f} MB")
         for name, most in sorted(self.peaks.items()):
             self.bound(f"{name} at most", most, MOST_MEMORY if name in self.places else MOST_GATEWAY, "MB")
 

@@ -1,12 +1,14 @@
 """What the ledger costs: entries a second through a recorder, and a node and a gateway beside very many live blobs."""
 import argparse
 import asyncio
+import contextlib
 import hashlib
 import json
 import os
 import pathlib
 import re
 import shutil
+import sqlite3
 import sys
 import tempfile
 import time
@@ -172,6 +174,16 @@ async def gateway(local: Local, what: str) -> None:
     await local.end("gateway")
 
 
+async def has_heard(path: pathlib.Path, place: int) -> None:
+    """Waits until a node's copy of the ledger, which may not be there yet, has come to a place."""
+    while True:
+        with contextlib.suppress(sqlite3.OperationalError):
+            with contextlib.closing(sqlite3.connect(f"file:{path}?mode=ro", uri=True)) as base:
+                if any(json.loads(value)["place"] >= place for value, in base.execute("SELECT value FROM told")):
+                    return
+        await asyncio.sleep(0.1)
+
+
 async def many(local: Local, count: int) -> None:
     """What a recorder, a node and a gateway cost beside so many live blobs."""
     await local.found()
@@ -213,6 +225,16 @@ async def many(local: Local, count: int) -> None:
     print(f"40 s later {resident(process)}, {spent(process) - used:.1f} processor seconds more")
     (local.folder / "users" / "publisher.ledger").unlink()
     await gateway(local, "that is new")
+    await local.end("node-0")
+    for it in local.folder.glob(f"{path.name}*"):
+        it.unlink()
+    begun = time.monotonic()
+    await local.start_node("node-0")
+    await has_heard(path, 5 * count)
+    taken, process = time.monotonic() - begun, local.processes["node-0"].pid
+    print(f"a node takes the checkpoint: {taken:.2f} s, {resident(process)}; ", end="")
+    await asyncio.sleep(40)
+    print(f"40 s later {resident(process)}")
 
 
 async def bench(words: argparse.Namespace) -> None:

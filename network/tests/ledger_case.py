@@ -251,7 +251,7 @@ class Memory(Etcd):
     async def quota(self) -> float:
         return 1_000.0
 
-    async def sizes(self) -> tuple[int, int]:
+    async def sizes(self, seconds: float = 10) -> tuple[int, int]:
         return self.used, self.used
 
     async def watch(self, hear: Callable[[str], None]) -> None:

@@ -15,8 +15,8 @@ def random_entries(drawn: random.Random, owners: list[list[str]]) -> list[Entry]
     ids = [bytes([shard]).hex() * 32 for shard in range(4)]
     ledger, entries = Ledger(), []
     for revision in range(1, 400):
-        kinds = "register", "ack", "attest", "begin", "ready", "finish", "past", "address", "share"
-        kind = drawn.choices(kinds, (6, 16, 8, 2, 5, 3, 2, 1, 1))[0]
+        kinds = "register", "ack", "attest", "begin", "ready", "finish", "past", "address", "share", "calendar", "expel"
+        kind = drawn.choices(kinds, (6, 16, 8, 2, 5, 3, 2, 1, 1, 1, 0.1))[0]
         epoch = ledger.writing_epoch + (drawn.random() < 0.1)
         poster, identifier = drawn.choice(NAMES + ["e"]), drawn.choice(ids)
         if drawn.random() < 0.03:
@@ -32,6 +32,10 @@ def random_entries(drawn: random.Random, owners: list[list[str]]) -> list[Entry]
             key = entry_key(poster, kind, "host", drawn.randrange(1, 9))
         elif kind == "share":
             key = entry_key(OPERATOR, kind, poster, drawn.randrange(100, 1_000))
+        elif kind == "calendar":
+            key = entry_key(OPERATOR, kind, epoch, drawn.randrange(3), drawn.randrange(3))
+        elif kind == "expel":
+            key = entry_key(OPERATOR, kind, poster)
         elif kind == "past":
             key = entry_key(poster, kind, ledger.epoch)
         else:
@@ -59,7 +63,7 @@ class RulesCase(unittest.TestCase):
         for it in (dict, len, list, lambda kept: [*reversed(kept)], lambda kept: kept.posters()):
             self.assertEqual(it(one.blobs), it(other.blobs))
         self.assertEqual(one.blobs.counts(), other.blobs.counts())
-        self.assertEqual(one.must_hold(), other.must_hold())
+        self.assertEqual([*one.must_hold()], [*other.must_hold()])
         ends = [(b"", 9, 9), (b"", one.epoch + 1, 9), (b"\1" * 32, 9, 1)]
         self.assertEqual([one.blobs.ending(*it) for it in ends], [other.blobs.ending(*it) for it in ends])
         self.assertEqual(other.blobs.draw(random.Random(1)) in one.blobs, bool(one.blobs))

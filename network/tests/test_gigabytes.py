@@ -18,7 +18,13 @@ class Gigabytes(unittest.TestCase):
     def test_files_go_in_and_out_while_one_node_is_killed_and_one_is_replaced(self) -> None:
         words = [str(HERE.parent / "bench-large"), "--gigabytes", "0.2", "--minutes", "15"]
         ran = subprocess.run(words, capture_output=True, text=True, timeout=1_000)
-        for row in (r"0\.20 GB in", r"0\.20 GB out", "out while a node is filled", "node-4 was filled"):
+        for row in (
+            r"0\.20 GB in",
+            r"0\.20 GB out",
+            "out while a node is filled",
+            "node-4 was filled",
+            "node-0 was stopped.*",
+        ):
             self.assertRegex(ran.stdout, f"{row}: ", ran.stderr)
         most = {name: float(size) for name, size in re.findall(r"^([a-z0-9-]+) at most: ([\d.]+) MB", ran.stdout, re.M)}
         self.assertEqual({*most}, {*NODES, "node-4", "gateway"})

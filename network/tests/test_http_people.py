@@ -64,6 +64,7 @@ class People(UpCase):
         self.assertIn("publisher may register 9 blobs", await self.words("share", folder, "publisher", "--blobs", 9))
         self.assertIn("other is expelled, from place", await self.words("expel", folder, "other"))
         self.assertIn("epoch 1 has begun", await self.words("handover", folder, "--yes"))
+        self.assertRegex((await self.words("status")).splitlines()[0], r"; the ledger is at place \d+$")
         told = await self.words("completion")
         text = "COMP_WORDS=(walrus-net st); COMP_CWORD=1; _walrus_net; echo ${COMPREPLY[@]}"
         process = await asyncio.create_subprocess_exec("bash", "-c", f"{told}\n{text}", stdout=asyncio.subprocess.PIPE)

@@ -127,7 +127,7 @@ class Votes(unittest.TestCase):
 
     def asked(self, ledger: Ledger) -> list[object]:
         """All that the rules, nodes and pages ask of votes."""
-        epochs, found = [ledger.epoch, ledger.epoch + 1], list[object]([ledger.must_hold(), ledger.blobs.counts()])
+        epochs, found = [ledger.epoch, ledger.epoch + 1], list[object]([[*ledger.must_hold()], ledger.blobs.counts()])
         for it in NAMES:
             found += [ledger.certificate(it), ledger.invalid(it), ledger.home_epoch(it)]
             found += [ledger.voted(kind, it, node) for kind in (ACK, ATTEST) for node in NODES]

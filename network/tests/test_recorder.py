@@ -56,6 +56,10 @@ class Adversary(LedgerCase):
         self.assertIn("certificate", str(caught.exception))
         server.close()
 
+    async def test_an_operator_sees_how_large_the_ledger_is(self) -> None:
+        _, told = await self.ask(OPERATOR, "GET", "/v1/status")
+        self.assertTrue(0 < told["etcd"]["used"] <= told["etcd"]["bytes"], told)
+
     async def test_nobody_posts_in_another_s_name(self) -> None:
         mallory = await self.newcomer("mallory")
         for text in (FOUNDED, entry_key("node-0", ACK, 0, "00" * 32), entry_key("node-1", ADDRESS, "127.0.0.1", 1)):

@@ -30,6 +30,14 @@ class Connections(LedgerCase):
         for writer in opened:
             writer.transport.abort()
 
+    async def test_a_body_that_never_ends_is_let_go_with_its_place(self) -> None:
+        self.enterContext(mock.patch.multiple(recording, EACH=1, REQUEST=0.3))
+        [(reader, writer)] = await self.opened("publisher", 1)
+        writer.write(b"POST /v1/entries HTTP/1.1\r\nHost: x\r\nContent-Length: 5000\r\n\r\n[")
+        async with asyncio.timeout(60):
+            self.assertTrue((await reader.readuntil(b"\r\n\r\n")).startswith(b"HTTP/1.1 400 "))
+        self.assertEqual((await self.ask("publisher", "GET", "/v1/status"))[0], 200)
+
     async def opened(self, name: str, count: int) -> list[tuple[asyncio.StreamReader, asyncio.StreamWriter]]:
         """So many connections with a recorder."""
         host, _, port = self.local.told()["recorders"][0].rpartition(":")

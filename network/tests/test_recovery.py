@@ -1,5 +1,6 @@
 """What a node recovers, and what it leaves alone: where it has no room, may not store, or would hold up others."""
 import asyncio
+import functools
 import sqlite3
 import types
 import unittest
@@ -108,6 +109,20 @@ class Left(NodeCase):
             await handover.acknowledge(node, names)
         turning.cancel()
         self.assertLessEqual(most, 200)  # two for each blob of a page
+
+    async def test_where_very_many_are_lacking_all_are_recovered_and_none_is_waited_for(self) -> None:
+        names, node, some = [await self.lacks(60) for _ in range(5)], self.node({0: {0: self.shard}}), self.ledger.blobs
+        node.until, node.settings = mock.AsyncMock(), types.SimpleNamespace(heal=3_600)
+        self.enterContext(mock.patch.object(some, "page", functools.partial(some.page, count=1)))
+        self.enterContext(mock.patch.multiple(recovery, PAGE=1, MANY=2))
+        self.enterContext(mock.patch.object(handover, "MANY", 2))
+        self.assertEqual(await handover.survey(node), ({0: dict.fromkeys(sorted(names)[:2], False)}, []))
+        healing = asyncio.create_task(handover.heal(node))
+        async with asyncio.timeout(60):
+            while not all(map(self.shard.settled, names)):
+                await asyncio.sleep(0.01)
+        healing.cancel()
+        self.assertEqual((node.progress.of, node.progress.blobs), (5, 5))
 
     async def test_what_was_there_and_is_lost_meanwhile_is_lacking(self) -> None:
         """A client stores a blob while a node looks at what it holds, and the disk does not take it."""

@@ -171,6 +171,23 @@ class Silent(unittest.IsolatedAsyncioTestCase):
             self.assertEqual(node.progress.blobs, len(NAMES) - 2)
             self.assertEqual((await settling, node.progress.blobs), (0, len(NAMES)))
 
+    async def test_of_all_that_is_lacking_so_much_is_listed_at_once(self) -> None:
+        """And nothing is said to be there as long as one of the first ones is lacking."""
+        node, listed, recover_all = self.node(0), list[int](), recovery.recover_all
+
+        async def listing(node: Any, work: list[recovery.Lack], progress: recovery.Progress) -> int:
+            listed.append(len(work))
+            self.assertEqual((progress.of, progress.blobs), (len(NAMES), max(0, 24 * len(listed) - 25)))
+            return await recover_all(node, work, progress)
+
+        for name in NAMES[1:]:
+            self.shards[1].held[name] = {SECONDARY}
+        for number in FULL:
+            self.shards[number].held[NAMES[0]] = set()
+        with mock.patch.multiple(recovery, PAGE=8, MANY=20, recover_all=listing):
+            self.assertEqual(await recovery.settle(node, 0, NAMES), 1)
+        self.assertEqual((listed, node.progress.blobs), ([24] * 4, len(NAMES) - 1))
+
     async def test_nodes_that_recover_the_same_not_in_step_do_not_wait_for_it_blob_by_blob(self) -> None:
         async def later() -> None:
             await self.waits.wait()

@@ -156,7 +156,7 @@ class Committees(NodeCase):
     async def test_who_has_no_shard_yet_is_not_ready(self) -> None:
         name = await self.certified(b"owed")
         self.apply(OPERATOR, "begin", 1, 1, "a,b,c,e")
-        self.assertEqual(self.ledger.must_hold(), [name])
+        self.assertEqual([*self.ledger.must_hold()], [name])
         node = self.node({0: {0: self.shard}})  # the begin is not on the disk yet
         await handover.move(node)
         self.assertEqual(node.posted, [])

@@ -14,7 +14,12 @@ CREATE TABLE entries (revision INTEGER, key TEXT, sum INTEGER, PRIMARY KEY (revi
 CREATE TABLE frames (frame INTEGER PRIMARY KEY, payload BLOB NOT NULL) STRICT;
 CREATE TABLE parts (place INTEGER PRIMARY KEY AUTOINCREMENT, epoch INTEGER, shard INTEGER, part INTEGER,
     identifier BLOB, frame INTEGER) STRICT;
+CREATE INDEX of_shard ON parts (epoch, shard, place);
+CREATE INDEX of_blob ON parts (epoch, shard, identifier);
 CREATE INDEX of_frame ON parts (frame);
+CREATE INDEX nameless ON parts (epoch, shard) WHERE identifier IS NULL;
+CREATE TABLE history (place INTEGER PRIMARY KEY AUTOINCREMENT, revision INTEGER, epoch INTEGER, shard INTEGER,
+    request BLOB, reply BLOB) STRICT;
 """
 
 

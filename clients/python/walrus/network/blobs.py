@@ -5,7 +5,7 @@ import dataclasses
 import json
 import random
 import sqlite3
-from typing import Iterable, Iterator, Mapping, Optional
+from typing import Collection, Iterable, Iterator, Mapping, Optional
 
 from .checkpoint import Row
 from .entries import ACK, ATTEST
@@ -215,9 +215,9 @@ class Blobs(Mapping[bytes, Blob]):
         """Blobs in that order, behind one of them, that are kept until an epoch at most."""
         return [it for it, in self.flush().execute(ENDING, (after, self.epoch, last, count))]
 
-    def owed(self, until: int, certified: int) -> list[bytes]:
+    def owed(self, until: int, certified: int) -> "Collection[bytes] | Owed":
         """Blobs in that order that are kept beyond an epoch, and were certified in another one or before."""
-        return self.names("until > ? AND certified <= ? ORDER BY identifier", until, certified)
+        return Owed(self, until, certified)
 
     def draw(self, drawn: random.Random) -> Optional[bytes]:
         """Any blob."""
@@ -241,6 +241,19 @@ class Blobs(Mapping[bytes, Blob]):
         self.make()
         self.base.execute("DELETE FROM counts")
         self.base.execute(COUNT_ALL)
+
+
+class Owed:
+    """What `Blobs.owed` tells, which is read some at a time whenever it is gone over, as it may be a lot."""
+
+    def __init__(self, blobs: Blobs, until: int, certified: int):
+        self.blobs, self.values = blobs, (until, certified)
+
+    def __iter__(self) -> Iterator[bytes]:
+        words, after = "until > ? AND certified <= ? AND identifier > ? ORDER BY identifier LIMIT 1000", b""
+        while page := self.blobs.names(words, *self.values, after):
+            yield from page
+            after = page[-1]
 
 
 class Over(Blobs):

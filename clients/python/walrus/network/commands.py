@@ -65,6 +65,7 @@ def tell_status(told: dict[str, Any]) -> str:
     following = (told.get("calendar") or {}).get("next")
     moving += f", the next planned for {following}" if following else ""
     lines = [f"epoch {told['epoch']}{moving}; " + ", ".join(f"{count} {it}" for it, count in told["blobs"].items())]
+    lines[0] += f"; the ledger is at place {told['ledger']['place']}"
     if told["ledger"]["stale"]:
         lines.append(f"the ledger is away for {told['ledger']['away']:.0f} s: {told['ledger']['said']}")
     for it in told["nodes"]:

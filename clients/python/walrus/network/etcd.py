@@ -226,9 +226,9 @@ class Etcd:
 
         return await self.asked(ask())
 
-    async def sizes(self) -> tuple[int, int]:
+    async def sizes(self, seconds: float = 10) -> tuple[int, int]:
         """The bytes of the file of the member beside this, and those of them that are in use."""
-        told = await self.call("maintenance/status", {})
+        told = await self.call("maintenance/status", {}, seconds)
         return int(told.get("dbSize", 0)), int(told.get("dbSizeInUse", 0))
 
     async def defragment(self) -> None:

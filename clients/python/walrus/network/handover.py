@@ -2,13 +2,14 @@
 import asyncio
 import gc
 import sys
-from typing import TYPE_CHECKING, Any, Iterable, Optional
+from typing import TYPE_CHECKING, Any, Collection, Iterable, Optional
 
 from .. import client
 
+from .blobs import Owed
 from .follower import Refused
 from .ledger import ACK, ADDRESS, ATTEST, PAST, entry_key
-from .recovery import Lack, attest, by_lanes, passing, settle
+from .recovery import MANY, Lack, attest, by_lanes, passing, settle
 
 if TYPE_CHECKING:
     from .node import Node
@@ -21,12 +22,12 @@ LATER = 60.0  # seconds until an address that was refused is told again
 async def survey(node: "Node") -> tuple[dict[int, dict[bytes, bool]], list[bytes]]:
     """By epoch the blobs for which a shard is not settled though they are certified in the committee of now, or though
     the node has vouched for them, and whether it has; and those of the writing epoch for which all shards are settled
-    and it has not vouched."""
+    and it has not vouched. Of each it tells no more than MANY, or a few."""
     ledger, lacks, unsaid = node.ledger, dict[int, dict[bytes, bool]](), list[bytes]()
     for epoch, side in list(node.sides.items()):
         ready = epoch == ledger.epoch and not ledger.moving and set(side) <= ledger.ready
         after = b""
-        while side and (page := ledger.blobs.page(after)):
+        while side and len(lacks.get(epoch, ())) < MANY and (page := ledger.blobs.page(after)):
             first, after = page[0][0], page[-1][0]
             held = [await node.store.settled(shard.holding, epoch, first, after) for shard in side.values()]
             for identifier, blob in page:
@@ -35,7 +36,7 @@ async def survey(node: "Node") -> tuple[dict[int, dict[bytes, bool]], list[bytes
                 certified = (blob.quorum(ACK, ledger.quorum) or (None,))[0]
                 said = any(side.keys() & blob.votes[kind].get(epoch, set()) for kind in (ACK, ATTEST))
                 if all(identifier in it for it in held):
-                    if epoch == ledger.writing_epoch and certified in (None, epoch) and not said:
+                    if epoch == ledger.writing_epoch and certified in (None, epoch) and not said and len(unsaid) < MANY:
                         unsaid.append(identifier)
                     continue
                 vouched = said or ready and certified is not None and certified < epoch
@@ -47,7 +48,8 @@ async def survey(node: "Node") -> tuple[dict[int, dict[bytes, bool]], list[bytes
 
 async def heal(node: "Node") -> None:
     """Recovers what the shards lack, once the whole ledger is heard: at once what the node has vouched for, and else
-    what they lacked for some time. Gives the node's word for what it was late with."""
+    what they lacked for some time; or all that is certified, if so many blobs are lacking that they are not listed.
+    Gives the node's word for what it was late with."""
     await node.until(lambda _: node.caught_up, None)
     clock, pause, lost = asyncio.get_running_loop().time, 0.0, None  # type: Any, float, Optional[int]
     lacked, late = dict[int, dict[bytes, bool]](), set[bytes]()
@@ -58,9 +60,14 @@ async def heal(node: "Node") -> None:
             taken = clock() - begun
             vouched = [it for blobs in lacks.values() for it, said in blobs.items() if said]
             urgent = any(map(node.ledger.certificate, vouched))
-            lost = tell_lost(node, vouched, lost, urgent)
+            lost = tell_lost(node, vouched, lost, urgent, any(len(it) >= MANY for it in lacks.values()))
             for epoch, blobs in lacks.items():
-                await settle(node, epoch, [it for it, said in blobs.items() if said or it in lacked.get(epoch, ())])
+                due = [it for it, said in blobs.items() if said or it in lacked.get(epoch, ())]
+                steps: list[Collection[bytes] | Owed] = [due]
+                if len(blobs) >= MANY:  # then all that is certified: behind what is urgent, unless all of it is
+                    steps.insert(int(len(due) < MANY), node.ledger.blobs.owed(epoch, epoch))
+                for owed in steps:
+                    await settle(node, epoch, owed)
             recovered = lacks.get(node.ledger.writing_epoch, {})
             await acknowledge(node, dict.fromkeys([*recovered, *late.intersection(unsaid), *node.unattested]))
             lacked, late = lacks, {*unsaid}
@@ -69,13 +76,14 @@ async def heal(node: "Node") -> None:
             pause = min(max(2 * pause, SOON), LATEST) if urgent else 0.0
 
 
-def tell_lost(node: "Node", vouched: list[bytes], lost: Optional[int], urgent: bool) -> int:
+def tell_lost(node: "Node", vouched: list[bytes], lost: Optional[int], urgent: bool, are_more: bool) -> int:
     """Says, at the start, what the disk has lost of what the node vouched for, and once it is recovered; how many blobs
-    it was."""
+    it was, if there are no more than were counted."""
     if lost is None and vouched:
         more = f" and {len(vouched) - TOLD} more" if len(vouched) > TOLD else ""
         names = " ".join(it.hex() for it in vouched[:TOLD])
-        words = f"{len(vouched)} blobs are lacking on the disk that this node has vouched for, {names}{more}"
+        least = "at least " if are_more else ""
+        words = f"{least}{len(vouched)} blobs are lacking on the disk that this node has vouched for, {names}{more}"
         said = f"{words}: the disk lost what it was asked to keep; they are recovered from the others now"
     elif lost and not urgent:
         said = f"{lost - len(vouched)} of them are recovered"

@@ -7,9 +7,9 @@ import collections
 import copy
 import dataclasses
 import functools
-from typing import Optional
+from typing import Collection, Optional
 
-from .blobs import Blob, Blobs, Over
+from .blobs import Blob, Blobs, Over, Owed
 from .entries import ACK, ADDRESS, ATTEST, LAST_EPOCH, LAST_UNTIL, OPERATOR, PAST, REGISTER, Entry, entry_key
 
 __all__ = ["ACK", "ADDRESS", "ATTEST", "LAST_UNTIL", "OPERATOR", "PAST", "REGISTER", "Entry", "Ledger", "entry_key"]
@@ -105,7 +105,7 @@ class Ledger:
         moved = self.moving and blob and len(blob.votes[ACK].get(self.writing_epoch, ())) >= self.quorum
         return self.epoch + bool(moved)
 
-    def must_hold(self) -> list[bytes]:
+    def must_hold(self) -> Collection[bytes] | Owed:
         """What each shard of the next committee must be settled for: what was certified when the move began."""
         return self.blobs.owed(self.writing_epoch, self.epoch) if self.moving else []
 

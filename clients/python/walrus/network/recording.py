@@ -2,6 +2,7 @@
 import asyncio
 import base64
 import collections
+import contextlib
 import json
 import sqlite3
 import ssl
@@ -184,6 +185,8 @@ class Service(Server):
         recorder = self.recorder
         told = json.loads(recorder.head(recorder.chain)) | {"fresh": recorder.fresh, "said": recorder.fault}
         told |= {"epoch": recorder.ledger.epoch, "past": recorder.ledger.past, "followers": self.places}
+        with contextlib.suppress(Failed):  # all else is told without it
+            told["etcd"] = dict(zip(("bytes", "used"), await recorder.etcd.sizes(1)))
         return web.json_response(told)
 
 

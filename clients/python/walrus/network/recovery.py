@@ -13,6 +13,7 @@ from .. import client, frames
 from ..frames import METADATA, PRIMARY, SECONDARY, code_of
 from ..shards import Asked
 
+from .blobs import Owed
 from .groups import several
 from .judge import Busy, Clash, name_of
 from .ledger import ACK, ATTEST
@@ -25,12 +26,14 @@ if TYPE_CHECKING:
 FRONT = 40  # bytes of a sliver before its symbols
 LANES, SEATS = 8, 256  # blobs that are recovered at once as far as memory goes, and connections for all of these
 PAGE = 1_000  # blobs that are looked at before others have a turn
+MANY = 100_000  # of what is lacking that is listed in memory at once, however much it is
 Lack = NamedTuple("Lack", [("shard", Shard), ("identifier", bytes)])  # a blob for which a shard is not settled
 
 
 @dataclasses.dataclass
 class Progress:
-    """How far a node is with what it recovers: blobs of its shards and bytes of their slivers, of how many."""
+    """How far a node is with what it recovers: blobs of its shards, of how many, and bytes of their slivers, of those
+    that are measured."""
 
     epoch: int = 0
     of: int = 0
@@ -110,40 +113,46 @@ async def by_lanes(node: "Node", lacks: Iterable[Lack], step: Callable[[Lack], A
     await several(map(take, lacks), max(1, min(LANES, SEATS // node.port.shape.shards)))
 
 
-async def settle(node: "Node", epoch: int, owed: Iterable[bytes]) -> int:
-    """Fills the node's shards of an epoch with what they owe, certified blobs first, and of these large ones, several
-    at once; how many they lack still."""
-    losses = node.store.losses
-    certified, others = await lacking(node, epoch, sorted(owed))
-    left = await recover_all(node, epoch, certified, others) if certified or others else 0
+async def settle(node: "Node", epoch: int, owed: Collection[bytes] | Owed) -> int:
+    """Fills the node's shards of an epoch with what they owe, so many blobs at once in the order of their names; how
+    many they lack still. All of them are counted first."""
+    losses, left, progress = node.store.losses, 0, Progress(epoch)
+    async for lacks in lacking(node, epoch, owed):
+        progress.of += len(lacks)
+    async for lacks in lacking(node, epoch, owed if progress.of else ()):
+        left += await recover_all(node, lacks, progress)
     kept = await node.store.durable() and node.store.losses == losses
     return left if kept else max(1, left)  # the disk has lost something that was there when it was looked at
 
 
-async def lacking(node: "Node", epoch: int, owed: Sequence[bytes]) -> tuple[list[Lack], list[Lack]]:
-    """What the node's shards of an epoch want of these blobs, which are in order: of certified ones, and of others. It
-    is found page by page, so that it holds up nobody else."""
-    shards, certified, others = [*node.sides.get(epoch, {}).values()], list[Lack](), list[Lack]()
-    for place in range(0, len(owed), PAGE):
-        some = owed[place : place + PAGE]  # noqa: E203
+async def lacking(node: "Node", epoch: int, owed: Iterable[bytes]) -> AsyncIterator[list[Lack]]:
+    """What the node's shards of an epoch want of these blobs, MANY or a few more at once. It is found page by page, so
+    that it holds up nobody else, and quickest where they are in order."""
+    shards, names, lacks = [*node.sides.get(epoch, {}).values()], iter(owed), list[Lack]()
+    while some := [*itertools.islice(names, PAGE)]:
         for shard in shards:
-            held = await node.store.settled(shard.holding, epoch, some[0], some[-1])
-            for it in some:
-                if it not in held and shard.wants(it):
-                    (certified if node.ledger.certificate(it) else others).append(Lack(shard, it))
-    return certified, others
+            held = await node.store.settled(shard.holding, epoch, min(some), max(some))
+            lacks += [Lack(shard, it) for it in some if it not in held and shard.wants(it)]
+            if len(lacks) >= MANY:
+                yield lacks
+                lacks.clear()
+    if lacks:
+        yield lacks
 
 
-async def recover_all(node: "Node", epoch: int, certified: list[Lack], others: list[Lack]) -> int:
-    """Recovers what shards of an epoch lack; how many are lacking still. Who is late is waited for once all blobs had
-    their turn: nodes that recover the same then have what they got from the others, and give each other the rest."""
-    work, sizes, put_off = certified + others, dict[Lack, int](), list[Lack]()
+async def recover_all(node: "Node", work: list[Lack], progress: Progress) -> int:
+    """Recovers what shards lack, certified blobs first, and of these large ones, several at once; how many are lacking
+    still. Who is late is waited for once all blobs had their turn: nodes that recover the same then have what they got
+    from the others, and give each other the rest."""
+    sizes, certified, put_off = dict[Lack, int](), set[Lack](), list[Lack]()
     if not work[0].shard.free_pages(LAST):  # what comes could not be kept
         tell_full(node)
         return len(work)
-    node.progress = progress = Progress(epoch, len(work))
+    node.progress = progress
 
     async def measure(lack: Lack) -> None:
+        if node.ledger.certificate(lack.identifier):
+            certified.add(lack)
         if node.store.wrong(lack.shard.holding, lack.identifier):
             await lack.shard.check(lack.identifier)  # it is right after all if the disk had failed for a moment
         if lack.shard.wants(lack.identifier) and (metadata := await find_metadata(node, *lack)):
@@ -158,9 +167,8 @@ async def recover_all(node: "Node", epoch: int, certified: list[Lack], others: l
             progress.blobs, progress.bytes = progress.blobs + 1, progress.bytes + sizes.get(lack, 0)
 
     await by_lanes(node, work, measure)
-    for some in (certified, others):
-        some.sort(key=lambda it: sizes.get(it, 0), reverse=True)
-    await by_lanes(node, certified + others, functools.partial(recover, fill))
+    work.sort(key=lambda it: (it in certified, sizes.get(it, 0)), reverse=True)
+    await by_lanes(node, work, functools.partial(recover, fill))
     await by_lanes(node, put_off, functools.partial(recover, functools.partial(fill, late=True)))
     left = 0
     for place in range(0, len(work), PAGE):
