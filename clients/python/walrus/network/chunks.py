@@ -95,10 +95,10 @@ class Writer:
                 task.cancel()
             said = await asyncio.gather(*tasks, return_exceptions=True)
             stored += [it[0] for it in said if isinstance(it, tuple)]
-        found, blob = ledger.certificate(identifier), ledger.blobs.get(identifier)
-        if not found or not blob:
+        found, ends = ledger.certificate(identifier), [it.until for name, _ in done if (it := ledger.blobs.get(name))]
+        if not found or len(ends) < len(done):
             raise client.Failed("its time ended while it was stored: store it for more epochs", {})
-        told = {"blobId": identifier.hex(), "size": size, "pieces": count, "endEpoch": blob.until}
+        told = {"blobId": identifier.hex(), "size": size, "pieces": count, "endEpoch": min(ends)}
         certificate = {"epoch": found[0], "count": found[1]}
         return told | {"certificate": certificate, "alreadyCertified": all(before for _, before in done)}
 

@@ -213,7 +213,7 @@ class Uploads:
             marked = marked or not names and bytes(last[: len(MARK)]) == MARK
             name, before = await store(last, until)
             names, was_there = [*names, name], was_there and before
-        identifier, ledger = names[0], self.publisher.network.ledger
+        identifier, ledger, end = names[0], self.publisher.network.ledger, LAST_UNTIL
         if len(names) > 1 or marked:
             identifier, before = await store(File(size, b"".join(names)).listed(), until)
             was_there = was_there and before
@@ -222,9 +222,10 @@ class Uploads:
                 await asyncio.sleep(0)  # others go on meanwhile
             if not ledger.certificate(name):
                 raise client.Failed("its time ended while it was stored: store it for more epochs", {})
-        found, blob = ledger.certificate(identifier), ledger.blobs[identifier]
+            end = min(end, ledger.blobs[name].until)
+        found = ledger.certificate(identifier)
         assert found
-        told = {"blobId": identifier.hex(), "size": size, "pieces": len(names), "endEpoch": blob.until}
+        told = {"blobId": identifier.hex(), "size": size, "pieces": len(names), "endEpoch": end}
         told |= {"certificate": {"epoch": found[0], "count": found[1]}, "alreadyCertified": was_there}
         upload.finish(as_known(told))
         return told
