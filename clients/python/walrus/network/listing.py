@@ -85,9 +85,12 @@ class Lister:
                 await asyncio.sleep(0)
         if short:
             charge.set_to(size, len(short))  # the file costs its bytes again, and these blobs
+        first = short[:1]  # which lists the others, and so is kept longer once they are
+        del short[:1]
         while short:
             await all_of(network.register(piece, until) for piece in short[:PAGE])
             del short[:PAGE]
+        await all_of(network.register(piece, until) for piece in first)
         return self.tell(name, end)
 
 
