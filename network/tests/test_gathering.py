@@ -39,7 +39,7 @@ class Writer:
         if last.endswith(b"waits"):
             self.waiting += 1
             await asyncio.Event().wait()
-        return {"blobId": "00" * 32, "size": size, "alreadyCertified": last.endswith(b"there")}
+        return {"blobId": "00" * 32, "size": size, "alreadyCertified": last.endswith(b"there"), "endEpoch": epochs}
 
 
 class Costing(unittest.IsolatedAsyncioTestCase):

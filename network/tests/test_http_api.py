@@ -121,8 +121,9 @@ class Told(UploadCase):
         rows = {*re.findall(r"^\| (\d{3}) \|", self.page, re.MULTILINE)}
         self.assertLessEqual({it for it in used if it >= "400"}, rows)
         text = (PACKAGE / "openapi.yaml").read_text()
-        self.assertIn(" 405 ", self.api["info"]["description"])  # of methods that no path has
-        self.assertLessEqual({*used, *rows} - {"405"}, {*re.findall(r'"(\d{3})":', text)})
+        general = {*re.findall(r"\b(4\d\d)\b", self.api["info"]["description"])}
+        self.assertEqual(general, {"405", "431"})  # of methods that no path has, and of heads
+        self.assertLessEqual({*used, *rows} - general, {*re.findall(r'"(\d{3})":', text)})
 
     def fits(self, schema: Any, value: Any, place: str) -> None:
         """A reply has what the schema says, and nothing beside it."""

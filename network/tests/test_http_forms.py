@@ -125,6 +125,12 @@ class Forms(unittest.IsolatedAsyncioTestCase):
         await self.refused(self.KIND, b"\n" * 100_000 + whole, 400)
         await self.refused(self.KIND, whole.replace(b"text/plain", b"multipart/mixed; boundary=z"), 400)
         await self.refused(self.KIND, whole.replace(b"one.txt", b"\xff"), 400)
+        await self.refused(
+            self.KIND, whole.replace(b"one.txt", b";" * 40), 400
+        )  # each is looked for from the beginning
+        await self.refused(self.KIND, whole.replace(b"text/plain", b"text/plain" + b";a" * 40), 400)
+        name = (await self.read(self.KIND, whole.replace(b"one.txt", b";" * 20)))[0][0]
+        self.assertEqual(name, ";" * 20)
 
     async def test_no_form_causes_another_error(self) -> None:
         drawn = random.Random(6)

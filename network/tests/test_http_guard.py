@@ -125,6 +125,26 @@ class Own(GuardCase):
         token = self.token("alice")
         self.assertEqual(await self.put(headers=token), 201)
 
+    async def test_a_head_that_takes_long_to_parse_is_refused(self) -> None:
+        await self.start()
+        self.assertEqual(await self.put(b"12345"), 201)
+        [name] = self.files
+        usual = {"Accept": "text/html,application/xml;q=0.9,image/webp,*/*;q=0.8", "Cookie": "a=b; " * 100}
+        for field, text in (
+            ("Range", "bytes=" + "0-," * 300),
+            ("If-Match", f'"{name}"' + ",*" * 300),
+            ("If-None-Match", ", " * 300),
+            ("Content-Type", 'multipart/form-data; boundary="' + ";" * 300),
+            ("Content-Type", "a/b; boundary=" + "c" * 300),
+        ):
+            for method, path in (("GET", f"/v1/blobs/{name}"), ("PATCH", "/v1/uploads/1"), ("OPTIONS", "/v1/blobs")):
+                status, _, told = await self.ask(method, path, headers={field: text})
+                self.assertEqual(status, 431, (method, field, told))
+            status, _, _ = await self.ask("GET", f"/v1/blobs/{name}", headers={**usual, field: text[:100]})
+            self.assertIn(status, (200, 206, 304), field)
+        for words, expected in (("a&" * 300, 431), ("a&" * 30, 400)):
+            self.assertEqual((await self.ask("GET", f"/v1/status?{words}"))[0], expected)
+
     async def test_a_server_before_it_says_who_asks(self) -> None:
         await self.start(proxies=["127.0.0.1"])
         self.assertEqual(await self.put(headers={"X-Forwarded-For": "127.0.0.1, 203.0.113.9"}), 403)

@@ -5,6 +5,7 @@ import pathlib
 import random
 import sys
 import unittest
+from typing import AsyncIterator
 from unittest import mock
 
 import aiohttp
@@ -103,6 +104,35 @@ class Commands(unittest.IsolatedAsyncioTestCase):
         self.assertTrue(b"".join(call.args[0] for call in naming.add.call_args_list) == data)
         self.assertTrue(out.getvalue() == data)
         self.assertEqual((len(asked), asked[0]), (2, ""))
+
+    async def test_what_is_sent_may_take_as_long_as_it_goes_on(self) -> None:
+        goes_on, is_over = asyncio.Event(), asyncio.Event()
+
+        async def answer(request: web.Request) -> web.Response:
+            if request.query["epochs"] == "9":
+                await goes_on.wait()  # and takes nothing
+            try:
+                return web.json_response({"size": len(await request.read())})
+            finally:
+                is_over.set()
+
+        async def parts(part: bytes, pause: float) -> AsyncIterator[bytes]:
+            for _ in range(25):
+                await asyncio.sleep(pause)
+                yield part
+
+        app = web.Application(client_max_size=2**30)
+        app.router.add_put("/v1/blobs", answer)
+        server = await self.enterAsyncContext(TestServer(app))
+        limit = aiohttp.ClientTimeout(total=None, sock_connect=10, sock_read=1)
+        async with aiohttp.ClientSession(server.make_url(""), timeout=limit) as session:
+            with mock.patch.object(transfers, "PATIENCE", 1):
+                self.assertEqual(await transfers.put(session, parts(b"part", 0.06), 5), {"size": 100})
+                with self.assertRaisesRegex(TimeoutError, "nothing was taken, or answered, for 1 s"):
+                    is_over.clear()
+                    await transfers.put(session, parts(bytes(10**6), 0), 9)
+            goes_on.set()
+            await is_over.wait()
 
 
 class Groups(unittest.IsolatedAsyncioTestCase):

@@ -84,6 +84,16 @@ class Manifests(unittest.TestCase):
             used.append(time.process_time() - begun)
         self.assertLess(used[1], 6 * used[0])
 
+    def test_what_stands_before_a_path_is_dropped_at_once(self) -> None:
+        used = dict[int, float]()
+        for count in (2_000, 64_000):
+            used[count] = 9.0
+            for _ in range(5):
+                begun = time.process_time()
+                self.assertEqual(manifest.as_path("./" * count + ".//./.a/b"), ".a/b")
+                used[count] = min(used[count], time.process_time() - begun)
+        self.assertLess(used[64_000], 70 * used[2_000])
+
     def test_types_come_from_endings_by_the_table_of_the_page(self) -> None:
         kinds = {"a.html": "text/html", "b/A.PNG": "image/png", "c.tar.gz": "application/gzip", "d": manifest.OTHER}
         kinds |= {".html": manifest.OTHER, "a.b/c": manifest.OTHER, "e.exe": manifest.OTHER, "f.webm": "video/webm"}

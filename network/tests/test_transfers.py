@@ -64,6 +64,11 @@ class Transfers(TransferCase):
         for kept in (one, (await self.id(marked)).hex()):  # as a gateway stores it, and as another writer may have
             self.files = {kept: marked}
             self.assertEqual((await self.run_net("fetch", kept))[0], marked)
+        for form in (1, 2):  # as no gateway stores it, but anybody may
+            listed = MARK + (3).to_bytes(8, "big") + await self.id(LIE, form)
+            self.files = {(await self.id(listed, form)).hex(): LIE, (await self.id(listed + b"1", form)).hex(): LIE}
+            for kept, status in zip(self.files, (0, 1)):
+                await self.run_net("fetch", kept, "--output", self.out, status=status)
         self.named = name
         self.out.write_bytes(blob)
         self.assertIn(name.encode(), (await self.run_net("store", self.out, "--epochs", "1"))[0])

@@ -50,14 +50,19 @@ class Naming:
 
 
 async def is_named(file: IO[bytes], identifier: bytes, naming: Naming) -> bool:
-    """Whether an identifier names a file, all of which `naming` was given; in another format the file is read again."""
+    """Whether an identifier names a file, all of which `naming` was given; in another format the file is read again. It
+    may be that of a list of one piece, which no gateway makes of most files, but anybody else may."""
     if identifier in await naming.identifiers():
         return True
     file.seek(0)
     other = Naming(naming.walrus, naming.faults, 3 - naming.form)  # there are formats 1 and 2
     while part := file.read(PIECE):
         await other.add(part)
-    return identifier in await other.identifiers()
+    if identifier in await other.identifiers():
+        return True
+    if not naming.size or len(naming.names) > NAME:
+        return False
+    return identifier in [await it.name(File(it.size, it.names).listed()) for it in (naming, other)]
 
 
 @contextlib.contextmanager

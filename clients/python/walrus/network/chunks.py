@@ -8,7 +8,7 @@ import contextlib
 import dataclasses
 import itertools
 import struct
-from typing import Any, AsyncIterator, Callable, Iterator, Optional, Sequence, Union
+from typing import Any, AsyncIterator, Callable, Iterable, Iterator, Optional, Sequence, Union
 
 from .. import bundles, client, codes
 from ..fairness import Fair
@@ -24,6 +24,7 @@ from .turns import ASKING
 
 PIECE = client.LARGEST_BLOB
 AHEAD = 3  # pieces of one file that are encoded or certified at once
+SLICE = 1_000  # certificates that are looked up at once
 HEAD = struct.Struct(">16sQ")
 MARK, NAME = b"\x00walrus list \x00\x00\x01", 32
 MOST_PIECES = (PIECE - HEAD.size) // NAME
@@ -95,12 +96,20 @@ class Writer:
                 task.cancel()
             said = await asyncio.gather(*tasks, return_exceptions=True)
             stored += [it[0] for it in said if isinstance(it, tuple)]
-        found, blob = ledger.certificate(identifier), ledger.blobs.get(identifier)
-        if not found or not blob:
-            raise client.Failed("its time ended while it was stored: store it for more epochs", {})
-        told = {"blobId": identifier.hex(), "size": size, "pieces": count, "endEpoch": blob.until}
-        certificate = {"epoch": found[0], "count": found[1]}
-        return told | {"certificate": certificate, "alreadyCertified": all(before for _, before in done)}
+        told = {"blobId": identifier.hex(), "size": size, "pieces": count}
+        told |= await self.kept(name for name, _ in done)
+        return told | {"alreadyCertified": all(before for _, before in done)}
+
+    async def kept(self, names: Iterable[bytes]) -> Told:
+        """The first epoch in which one of these blobs is not kept, and the certificate of the last one."""
+        ledger, found, end = self.network.ledger, (0, 0), LAST_UNTIL
+        for place, name in enumerate(names):
+            if place % SLICE == 0:
+                await asyncio.sleep(0)  # others go on meanwhile
+            if not (certificate := ledger.certificate(name)):
+                raise client.Failed("its time ended while it was stored: store it for more epochs", {})
+            found, end = certificate, min(end, ledger.blobs[name].until)
+        return {"endEpoch": end, "certificate": {"epoch": found[0], "count": found[1]}}
 
     async def store_bundle(
         self,

@@ -15,7 +15,7 @@ from .fetching import fetch_any
 from .follower import Refused, Unreachable
 from .manifest import clean
 from .resuming import store
-from .transfers import Failure, ask, listed, store_bundle
+from .transfers import PATIENCE, Failure, ask, listed, store_bundle
 from .trees import store_folder
 
 URL = "http://127.0.0.1:31415"
@@ -163,7 +163,7 @@ def parse() -> argparse.Namespace:
 async def run(words: argparse.Namespace) -> int:
     if words.command in operators.RUNS:
         return await operators.RUNS[words.command](words)
-    limit = aiohttp.ClientTimeout(total=None, sock_connect=10, sock_read=180)
+    limit = aiohttp.ClientTimeout(total=None, sock_connect=10, sock_read=PATIENCE)
     token = os.environ.get("WALRUS_TOKEN", "")
     headers = {"Authorization": f"Bearer {token}"} if token else {}
     async with aiohttp.ClientSession(words.gateway, timeout=limit, headers=headers) as session:

@@ -11,6 +11,7 @@ from typing import Any, AsyncIterator, Coroutine, Iterator
 from . import pieces
 from .archives import Coming, opened
 from .chunks import PIECE, Told, Writer
+from .entries import LAST_UNTIL
 from .groups import several
 from .manifest import MARK, Place, TooMany, Wrong
 from .packing import SMALL, WRITTEN, Folder
@@ -59,6 +60,7 @@ class Storing:
     def __init__(self, writer: Writer, costs: Costs, epochs: int, stored: list[bytes]):
         self.writer, self.costs, self.stored, self.is_new = writer, costs, stored, False
         self.until = writer.network.ledger.writing_epoch + epochs
+        self.end = LAST_UNTIL  # the first epoch in which one of those that are stored is not kept
 
     async def store(self, stream: AsyncIterator[bytes]) -> Told:
         """Stores a file until the epoch that was said as the first one began to come. Each part counts before it is
@@ -80,6 +82,7 @@ class Storing:
             whole = max(0, size - 1) // PIECE
             self.costs.less(size - whole * PIECE, count_of(size) - whole)
             raise
+        self.end = min(self.end, told["endEpoch"])
         if told["alreadyCertified"]:
             self.costs.less(size, count_of(size))
         else:
@@ -93,7 +96,11 @@ class Storing:
         offset = 0 if 0 < size <= SMALL else None  # a small file is a pack of its own
         manifest = MARK + Place(path, kind, size, file if size else b"", offset).line()
         folder = await self.store(once(manifest))
-        return {**told, "alreadyCertified": not self.is_new, "named": {"folder": folder["blobId"], "type": kind}}
+        return self.of_all(told) | {"named": {"folder": folder["blobId"], "type": kind}}
+
+    def of_all(self, told: Told) -> Told:
+        """What is told of one file, as of all: whether anything is new, and how long all of it is kept."""
+        return {**told, "alreadyCertified": not self.is_new, "endEpoch": self.end}
 
 
 class Spool(pieces.Spool):
@@ -135,7 +142,7 @@ class Upload(Storing):
             await several(self.parts(), AHEAD)
             told = await self.store(spread(self.folder))
             found = {"files": self.folder.count, "bytes": self.folder.bytes}
-            return {**told, "alreadyCertified": not self.is_new, "folder": found}
+            return self.of_all(told) | {"folder": found}
         except sqlite3.Error as fault:
             words = f"the gateway cannot keep what it knows of the folder: {fault}; try again later"
             raise Problem(503, words) from None

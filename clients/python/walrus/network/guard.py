@@ -27,6 +27,7 @@ SENT += ", Upload-Offset, Upload-Complete, Upload-Length, Upload-Draft-Interop-V
 ASKED = {"WWW-Authenticate": 'Bearer realm="walrus"'}
 INVALID = {"WWW-Authenticate": 'Bearer realm="walrus", error="invalid_token"'}
 NO_TOKEN = "only its own machine may store here, unless there are tokens (walrus-net token)"
+MARKS, TYPE = 256, 256  # commas, semicolons and ampersands in a request's query and fields; bytes of its Content-Type
 
 
 class Crowd:
@@ -70,6 +71,7 @@ class Guard:
         address = request["address"] = self.address(request)
         keys = [f"address {key_of(address)}"]
         self.must_be_few(keys)
+        must_be_brief(request)
         token = request["token"] = self.shown(request)
         if token:
             keys.append(f"token {token.name}")
@@ -196,6 +198,17 @@ class Guard:
             return
         response.headers["Access-Control-Allow-Origin"] = "*"
         response.headers["Access-Control-Expose-Headers"] = EXPOSED
+
+
+def must_be_brief(request: web.BaseRequest) -> None:
+    """Raises if the head of a request would take long to parse: each range, tag and word of a query takes its time, and
+    each parameter of a media type as much as there is before it."""
+    texts = [request.rel_url.raw_query_string, *request.headers.values()]
+    if sum(text.count(mark) for text in texts for mark in ",;&") > MARKS:
+        said = f"the head of the request has more than {MARKS} commas, semicolons and ampersands"
+        raise Problem(431, f"{said}: ask for less at once")
+    if len(request.headers.get(hdrs.CONTENT_TYPE, "")) > TYPE:
+        raise Problem(431, f"Content-Type has more than {TYPE} bytes: send a shorter one")
 
 
 def is_read(request: web.Request) -> bool:

@@ -4,9 +4,10 @@ import re
 
 from aiohttp import web
 
-from .blobs import Blob, ending_of
+from .blobs import ending_of
 from .client import Network
 from .dates import date_of
+from .entries import LAST_UNTIL
 from .groups import all_of
 from .problems import FRESH, JSON, Problem, as_line
 from .reading import Reader, send_text
@@ -49,16 +50,16 @@ class Lister:
         ledger, found = self.network.ledger, list[dict[str, object]]()
         names = await ending(self.network, after, last)
         for number, name in enumerate(names[:PAGE]):
-            found += [self.tell(name, blob)] if (blob := ledger.blobs.get(name)) else []
+            found += [self.tell(name, blob.until)] if (blob := ledger.blobs.get(name)) else []
             if number % FEW == 0:
                 await asyncio.sleep(0)
         more = names[PAGE - 1].hex() if len(names) > PAGE else None
         return as_line({"epoch": ledger.epoch, "blobs": found, "next": more})
 
-    def tell(self, name: bytes, blob: Blob) -> dict[str, object]:
+    def tell(self, name: bytes, until: int) -> dict[str, object]:
         found = self.network.ledger.certificate(name)
         certificate = {"epoch": found[0], "count": found[1]} if found else None
-        told = {"blobId": name.hex(), "endEpoch": blob.until, "ends": date_of(self.network.ledger, blob.until)}
+        told = {"blobId": name.hex(), "endEpoch": until, "ends": date_of(self.network.ledger, until)}
         return {**told, "certificate": certificate, "invalid": self.network.ledger.invalid(name)}
 
     async def extend(self, name: bytes, epochs: int, charge: Charge) -> dict[str, object]:
@@ -75,18 +76,22 @@ class Lister:
         """Keeps what has so many blobs at most."""
         network, until = self.network, self.network.ledger.writing_epoch + epochs
         size, names = await self.shelf.consists(name, most)
-        short = list[bytes]()
+        short, end = list[bytes](), LAST_UNTIL
         for number, piece in enumerate(names):  # of which anybody may list half a million
             self.reader.must_stand(piece)
-            short += [piece] if network.ledger.blobs[piece].until < until else []
+            short += [piece] if (kept := network.ledger.blobs[piece].until) < until else []
+            end = min(end, max(kept, until))
             if number % TOGETHER == 0:
                 await asyncio.sleep(0)
         if short:
             charge.set_to(size, len(short))  # the file costs its bytes again, and these blobs
+        first = short[:1]  # which lists the others, and so is kept longer once they are
+        del short[:1]
         while short:
             await all_of(network.register(piece, until) for piece in short[:PAGE])
             del short[:PAGE]
-        return self.tell(name, network.ledger.blobs[name])
+        await all_of(network.register(piece, until) for piece in first)
+        return self.tell(name, end)
 
 
 async def ending(network: Network, after: bytes, last: int) -> list[bytes]:

@@ -99,8 +99,7 @@ def as_path(name: Union[str, bytes]) -> str:
         path = name.decode() if isinstance(name, bytes) else name.encode().decode()
     except UnicodeError:
         raise Wrong(f"{shown(name)} is no UTF-8: rename the file") from None
-    while path.startswith("./"):
-        path = path[2:].lstrip("/") if path.startswith(".//") else path[2:]
+    path = re.sub(r"\A(?:\./+)+", "", path)
     if path.startswith("/"):
         raise Wrong(f"{shown(path)} is no path within the folder: it begins with a slash")
     if CONTROLS.search(path) or "\\" in path:

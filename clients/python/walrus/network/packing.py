@@ -13,11 +13,13 @@ WRITTEN = 131_072  # bytes of a manifest that are made at once
 MADE = """
 CREATE TABLE files (path BLOB PRIMARY KEY, length INTEGER, file BLOB, digest BLOB) WITHOUT ROWID;
 CREATE TABLE large (path BLOB PRIMARY KEY, length INTEGER, at) WITHOUT ROWID;
-CREATE TABLE contents (digest BLOB PRIMARY KEY, length INTEGER, at) WITHOUT ROWID;
+CREATE TABLE contents (digest BLOB PRIMARY KEY, length INTEGER, at, first BLOB) WITHOUT ROWID;
 CREATE TABLE packed (digest BLOB PRIMARY KEY, pack INTEGER, offset INTEGER) WITHOUT ROWID;
 CREATE TABLE packs (pack INTEGER PRIMARY KEY, file BLOB);
 """
-SMALLS = "SELECT digest, contents.length, at FROM files JOIN contents USING (digest) ORDER BY path"
+SMALL_FILE = "INSERT INTO contents VALUES (?, ?, ?, ?) ON CONFLICT DO UPDATE SET first = min(first, excluded.first)"
+SMALLS = """SELECT digest, contents.length, at FROM files JOIN contents USING (digest)
+WHERE path = first ORDER BY path"""  # of equal files the first
 LINES = """SELECT path, length, files.file, packs.file, offset FROM files
 LEFT JOIN packed USING (digest) LEFT JOIN packs USING (pack) ORDER BY path"""
 
@@ -28,7 +30,7 @@ class Folder:
     def __init__(self) -> None:
         self.base = sqlite3.connect("", isolation_level=None)
         self.base.executescript(
-            f"PRAGMA journal_mode=OFF; PRAGMA synchronous=OFF; PRAGMA cache_size=-8000; {MADE} BEGIN;"
+            f"PRAGMA journal_mode=OFF; PRAGMA synchronous=OFF; PRAGMA cache_size=-1000; {MADE} BEGIN;"
         )
         self.count = self.bytes = self.room = 0  # files and their bytes, and those of the manifest at least
 
@@ -73,7 +75,7 @@ class Folder:
 
     def add_small(self, path: str, length: int, digest: bytes, at: object) -> None:
         """Tells of a file that will be in a pack; `digest` is the SHA-256 of its bytes."""
-        self.base.execute("INSERT OR IGNORE INTO contents VALUES (?, ?, ?)", (digest, length, at))
+        self.base.execute(SMALL_FILE, (digest, length, at, path.encode()))
         self.tell(path, length, None, digest)
 
     def tell(self, path: str, length: int, file: Optional[bytes], digest: Optional[bytes]) -> None:
@@ -89,8 +91,6 @@ class Folder:
         """For each pack what lies in it: offsets, lengths, and where the bytes are. Packs are numbered from 0 on."""
         pack, size, number = list[tuple[int, int, object]](), 0, 0
         for digest, length, at in self.base.execute(SMALLS):
-            if self.base.execute("SELECT 1 FROM packed WHERE digest = ?", (digest,)).fetchone():
-                continue
             if size + length > PACK or len(pack) == MANY:
                 yield pack
                 pack, size, number = [], 0, number + 1

@@ -13,7 +13,7 @@ import aiohttp
 from . import transfers
 from .checked import Naming, written_whole
 from .chunks import PIECE
-from .transfers import PART, TRIES, Bar, Failure, ask, check, must_name, naming_of
+from .transfers import PART, TRIES, Bar, Failure, ask, check, must_name, naming_of, sending
 from .unfinished import IDLE
 
 KIND = "application/partial-upload"
@@ -146,7 +146,7 @@ class Sending:
         self.bar.done = offset
         headers = {"Content-Type": KIND, "Upload-Offset": str(offset), "Upload-Complete": "?1"}
         headers["Content-Length"] = str(self.bar.size - offset)
-        async with self.session.patch(place, data=self.parts(offset), headers=headers) as said:
+        async with sending(self.session, "PATCH", place, self.parts(offset), headers=headers) as said:
             if said.status in AGAIN:
                 raise Broken(await text_of(said))
             await check(said)

@@ -4,6 +4,7 @@ from typing import AsyncGenerator, AsyncIterator
 from .problems import Problem
 
 HEAD = 4_096  # bytes of the head of a file in a form, and what a form may have beside each file
+MARKS = 32  # semicolons of such a head: the parameters behind them take longer the more there are
 BROKEN = "the tar breaks off, or is none: make it with tar --create, without compression"
 Parts = AsyncIterator[bytes]
 
@@ -12,7 +13,8 @@ class Source:
     """A stream, which aiohttp's reader of forms takes for one of its own."""
 
     def __init__(self, stream: Parts):
-        self.stream, self.kept, self.is_over, self.head = stream, bytearray(), False, 0
+        self.stream, self.kept, self.is_over = stream, bytearray(), False
+        self.head = self.marks = 0  # bytes and semicolons of the head that is read
 
     async def fill(self) -> bool:
         """Takes the next part of the stream; whether there was one."""
@@ -55,7 +57,7 @@ class Source:
 
     async def read(self, size: int) -> bytes:
         """So many bytes of a file, and no fewer before the end: aiohttp finds no boundary that comes in three parts."""
-        self.head = 0
+        self.head = self.marks = 0
         return await self.exactly(size)
 
     async def readline(self, **_: int) -> bytes:
@@ -63,9 +65,11 @@ class Source:
         while not (end := self.kept.find(b"\n") + 1) and len(self.kept) <= HEAD and await self.fill():
             pass
         line = self.take(end or len(self.kept))
-        self.head += len(line)
+        self.head, self.marks = self.head + len(line), self.marks + line.count(b";")
         if self.head > HEAD:
             raise Problem(400, f"the head of a file has more than {HEAD} bytes: give it a shorter name")
+        if self.marks > MARKS:
+            raise Problem(400, f"the head of a file has more than {MARKS} semicolons: give it a name with fewer")
         return line
 
     def unread_data(self, data: bytes) -> None:

@@ -17,6 +17,7 @@ from .local import find_program
 from .manifest import clean
 
 PART, TRIES = 1_048_576, 5
+PATIENCE = 180  # seconds in which a gateway takes a part of what is sent, or answers
 BY_STATUS = {404: 4, 410: 3, 503: 4}
 
 
@@ -64,6 +65,34 @@ async def listed(session: aiohttp.ClientSession, within: int) -> AsyncIterator[d
         after = told["next"]
 
 
+@contextlib.asynccontextmanager
+async def sending(
+    session: aiohttp.ClientSession, method: str, path: str, parts: AsyncIterator[bytes], **words: Any
+) -> AsyncIterator[aiohttp.ClientResponse]:
+    """The answer to a request whose body comes in parts, each of which has its own time. What aiohttp has for an answer
+    may begin before the body does, and so would be the time for all of it."""
+
+    async def timed() -> AsyncIterator[bytes]:
+        async for part in parts:
+            limit.reschedule(asyncio.get_running_loop().time() + PATIENCE)
+            yield part
+        limit.reschedule(asyncio.get_running_loop().time() + PATIENCE)
+
+    words["timeout"] = aiohttp.ClientTimeout(total=None, sock_connect=10)
+    try:
+        async with asyncio.timeout(PATIENCE) as limit, session.request(method, path, data=timed(), **words) as response:
+            yield response
+    except TimeoutError as fault:
+        raise TimeoutError(str(fault) or f"nothing was taken, or answered, for {PATIENCE} s") from fault
+
+
+async def put(session: aiohttp.ClientSession, parts: AsyncIterator[bytes], epochs: int) -> Any:
+    """What a gateway tells of a file that comes in parts."""
+    async with sending(session, "PUT", "/v1/blobs", parts, params={"epochs": epochs}) as response:
+        await check(response)
+        return await response.json()
+
+
 async def ask(session: aiohttp.ClientSession, method: str, path: str, **words: Any) -> Any:
     """The JSON of a gateway's answer."""
     async with session.request(method, path, **words) as response:
@@ -109,7 +138,7 @@ async def store(session: aiohttp.ClientSession, path: str, epochs: int) -> Any:
                 yield part
                 bar.add(len(part))
 
-        told = await ask(session, "PUT", "/v1/blobs", params={"epochs": epochs}, data=parts())
+        told = await put(session, parts(), epochs)
     must_name(told, await naming.identifiers(), "the file")
     return told
 

@@ -8,10 +8,11 @@ from typing import Any, AsyncIterator, Awaitable, Callable, Iterable, Iterator
 import aiohttp
 
 from .checked import Naming
+from .entries import LAST_UNTIL
 from .groups import all_of
 from .manifest import Wrong, as_path, label_of, shown
 from .packing import SMALL, Folder
-from .transfers import PART, Bar, Failure, ask, must_name, naming_of
+from .transfers import PART, Bar, Failure, ask, must_name, naming_of, put
 
 WIDTH = 4  # parts of a folder that are on their way at once
 Work = Callable[[], Awaitable[None]]
@@ -60,6 +61,7 @@ class Sending:
     def __init__(self, session: aiohttp.ClientSession, naming: Naming, epochs: int, until: int, bar: Bar):
         self.session, self.epochs, self.until, self.bar = session, epochs, until, bar
         self.walrus, self.faults, self.folder, self.sent = naming.walrus, naming.faults, Folder(), 0
+        self.end = LAST_UNTIL  # the first epoch in which a part of it is not kept
 
     async def send(self, parts: Callable[[], Iterator[bytes]], what: str, always: bool = False) -> tuple[bytes, Any]:
         """Sends a file that is not there for so long; its identifier, and what the gateway tells if it was sent."""
@@ -77,8 +79,8 @@ class Sending:
                 yield part
                 self.bar.add(len(part))
 
-        told = await ask(self.session, "PUT", "/v1/blobs", params={"epochs": self.epochs}, data=stream())
-        self.sent += naming.size
+        told = await put(self.session, stream(), self.epochs)
+        self.sent, self.end = self.sent + naming.size, min(self.end, told["endEpoch"])
         must_name(told, names, what)
         return names[0], told
 
@@ -88,7 +90,9 @@ class Sending:
             told = await ask(self.session, "GET", f"/v1/status/{name.hex()}")
         except Failure:
             return False
-        return bool(told["certificate"]) and not told["invalid"] and told["endEpoch"] >= self.until
+        is_kept = bool(told["certificate"]) and not told["invalid"] and told["endEpoch"] >= self.until
+        self.end = min(self.end, told["endEpoch"]) if is_kept else self.end
+        return is_kept
 
     def look(self, top: bytes) -> list[tuple[str, bytes]]:
         """Checks the names of all files, and reads the small ones; the large ones."""
@@ -139,7 +143,7 @@ class Sending:
         lines = b"".join(self.folder.manifest())
         name, told = await self.send(lambda: iter([lines]), "the folder", always=True)
         found = {"files": self.folder.count, "bytes": self.folder.bytes, "sent": self.sent, "label": label_of(name)}
-        return {**told, "folder": found}
+        return {**told, "endEpoch": self.end, "folder": found}
 
 
 async def store_folder(session: aiohttp.ClientSession, path: str, epochs: int) -> Any:

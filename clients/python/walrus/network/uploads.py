@@ -26,7 +26,6 @@ VERSION, KIND = "6", "application/partial-upload"
 AHEAD = 2  # pieces of an upload that are stored while the next one comes
 OWN = "Upload-Offset", "Upload-Complete", "Upload-Length"
 FAULTS = Problem, client.Failed, client.Refused, OSError
-SLICE = 1_000  # certificates that are looked up at once
 
 
 class Uploads:
@@ -213,19 +212,13 @@ class Uploads:
             marked = marked or not names and bytes(last[: len(MARK)]) == MARK
             name, before = await store(last, until)
             names, was_there = [*names, name], was_there and before
-        identifier, ledger = names[0], self.publisher.network.ledger
+        identifier = names[0]
         if len(names) > 1 or marked:
             identifier, before = await store(File(size, b"".join(names)).listed(), until)
             was_there = was_there and before
-        for place, name in enumerate([identifier, *names]):
-            if place % SLICE == 0:
-                await asyncio.sleep(0)  # others go on meanwhile
-            if not ledger.certificate(name):
-                raise client.Failed("its time ended while it was stored: store it for more epochs", {})
-        found, blob = ledger.certificate(identifier), ledger.blobs[identifier]
-        assert found
-        told = {"blobId": identifier.hex(), "size": size, "pieces": len(names), "endEpoch": blob.until}
-        told |= {"certificate": {"epoch": found[0], "count": found[1]}, "alreadyCertified": was_there}
+        told = {"blobId": identifier.hex(), "size": size, "pieces": len(names)}
+        told |= await self.publisher.writer.kept([*names, identifier])
+        told |= {"alreadyCertified": was_there}
         upload.finish(as_known(told))
         return told
 
