@@ -1,6 +1,7 @@
 """Files of a network's machines: what is founded, added, renewed and removed."""
 import contextlib
 import datetime
+import errno
 import fnmatch
 import json
 import pathlib
@@ -10,13 +11,13 @@ import socket
 import ssl
 import threading
 import unittest
+from unittest import mock
 
 from founding_case import THREE, FoundingCase
 from walrus.network import TOP, certificates, entries
 from walrus.network.founding import must_fit, owners_of
 from walrus.network.ledger import Entry, Ledger
 from walrus.network.machine import Place, Unfounded
-from walrus.network.local import free_port
 from walrus.network.settings import GatewaySettings, RecorderSettings, Settings
 from walrus.network.transfers import Failure
 from walrus.wire import bound
@@ -149,14 +150,16 @@ class Found(FoundingCase):
     async def test_a_machine_that_has_a_name_listens_at_all_its_addresses(self) -> None:
         await self.found()
         own = self.folder / "hosts" / "alpha"
-        for told in (Settings.read(own / "alpha.toml"), RecorderSettings.read(own / "recorder.toml")):
-            listening = bound(told.host, free_port())
-            for it in listening:
-                self.addCleanup(it.close)
-            kinds = {it.family for it in listening}
-            self.assertEqual(kinds - {socket.AF_INET6}, {socket.AF_INET})
-            with contextlib.suppress(OSError), socket.create_server(("::1", 0), family=socket.AF_INET6):
-                self.assertIn(socket.AF_INET6, kinds)  # unless the system lacks it
+        for kinds in ({socket.AF_INET, socket.AF_INET6}, {socket.AF_INET}):  # of a system that lacks IPv6
+
+            def listen(_: object, family: int, kinds: set[int] = {*kinds}, **words: int) -> mock.Mock:
+                if family not in kinds:
+                    raise OSError(errno.EAFNOSUPPORT, "the system lacks it")
+                return mock.Mock(family=family)
+
+            for told in (Settings.read(own / "alpha.toml"), RecorderSettings.read(own / "recorder.toml")):
+                with mock.patch.object(socket, "create_server", listen):
+                    self.assertEqual({it.family for it in bound(told.host, told.port)}, kinds)
 
     async def test_with_a_prefix_all_lies_behind_it(self) -> None:
         await self.found("--prefix", "/srv/one")
