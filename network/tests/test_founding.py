@@ -1,6 +1,7 @@
 """Files of a network's machines: what is founded, added, renewed and removed."""
 import contextlib
 import datetime
+import errno
 import fnmatch
 import json
 import pathlib
@@ -10,14 +11,16 @@ import socket
 import ssl
 import threading
 import unittest
+from unittest import mock
 
 from founding_case import THREE, FoundingCase
 from walrus.network import TOP, certificates, entries
 from walrus.network.founding import must_fit, owners_of
 from walrus.network.ledger import Entry, Ledger
 from walrus.network.machine import Place, Unfounded
-from walrus.network.settings import GatewaySettings, Settings
+from walrus.network.settings import GatewaySettings, RecorderSettings, Settings
 from walrus.network.transfers import Failure
+from walrus.wire import bound
 
 
 class Found(FoundingCase):
@@ -35,7 +38,8 @@ class Found(FoundingCase):
             self.assertEqual(path.stat().st_mode & 0o777, 0o600, path)
         told = Settings.read(self.folder / "hosts" / "alpha" / "alpha.toml")
         self.assertEqual((told.database, told.announced), ("/var/lib/walrus/alpha/alpha.db", "alpha:31500"))
-        self.assertEqual((told.host, told.recorders), ("0.0.0.0", ["alpha:31416", "beta:31416", "gamma:31416"]))
+        self.assertEqual((told.host, told.recorders), ("", ["alpha:31416", "beta:31416", "gamma:31416"]))
+        self.assertIn("PEER_URLS=https://0.0.0.0:2380\n", (self.folder / "hosts" / "alpha" / "etcd.env").read_text())
         gate = GatewaySettings.read(self.folder / "hosts" / "office" / "gate.toml")
         self.assertEqual((gate.host, gate.port, gate.key), ("127.0.0.1", 31415, "/etc/walrus/gate.key"))
         self.assertTrue(json.loads((self.folder / "users" / "operator" / "network.json").read_text())["nodes"])
@@ -139,8 +143,23 @@ class Found(FoundingCase):
     async def test_places_are_read_as_they_are_written(self) -> None:
         self.assertEqual(Place.read("a=[fd00::1]:7*3"), Place("a", "fd00::1", 7, 3))
         self.assertEqual(
-            (Place.read("[fd00::1]", "r", 9).address, Place.read("h", "r", 9).listens), ("[fd00::1]:9", "0.0.0.0")
+            (Place.read("[fd00::1]", "r", 9).address, Place.read("[fd00::1]", "r", 9).listens),
+            ("[fd00::1]:9", "fd00::1"),
         )
+
+    async def test_a_machine_that_has_a_name_listens_at_all_its_addresses(self) -> None:
+        await self.found()
+        own = self.folder / "hosts" / "alpha"
+        for kinds in ({socket.AF_INET, socket.AF_INET6}, {socket.AF_INET}):  # of a system that lacks IPv6
+
+            def listen(_: object, family: int, kinds: set[int] = {*kinds}, **words: int) -> mock.Mock:
+                if family not in kinds:
+                    raise OSError(errno.EAFNOSUPPORT, "the system lacks it")
+                return mock.Mock(family=family)
+
+            for told in (Settings.read(own / "alpha.toml"), RecorderSettings.read(own / "recorder.toml")):
+                with mock.patch.object(socket, "create_server", listen):
+                    self.assertEqual({it.family for it in bound(told.host, told.port)}, kinds)
 
     async def test_with_a_prefix_all_lies_behind_it(self) -> None:
         await self.found("--prefix", "/srv/one")
@@ -172,6 +191,16 @@ class Changed(FoundingCase):
         await self.says("remove", self.folder, "delta")
         left = {path.name for path in (self.folder / "hosts" / "delta").glob("delta*")}
         self.assertEqual(left, {f"delta.b.{end}" for end in ("toml", "crt", "key")})
+
+    async def test_each_machine_has_the_units_of_the_version_that_changed_its_files_last(self) -> None:
+        await self.found()
+        unit = "units/walrus-etcd.service"
+        new = (TOP / "network" / unit).read_text()
+        for words in (["add", self.folder, "delta=delta:31500"], ["renew", self.folder]):
+            for host in ("alpha", "gamma"):
+                (self.folder / "hosts" / host / unit).write_text("[Service]\n")  # as an earlier version had it
+            await self.says(*words)
+            self.assertEqual({path.read_text() for path in self.folder.glob(f"hosts/*/{unit}")}, {new})
 
     async def test_nobody_is_told_to_expel_the_operator_and_nobody_can(self) -> None:
         await self.found()

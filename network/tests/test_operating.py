@@ -12,11 +12,12 @@ from typing import Any
 from unittest import mock
 
 import harness
-from ledger_case import LedgerCase
+from ledger_case import FOUR, LedgerCase
 from walrus import client, frames
 from walrus.network import operating
 from walrus.network.entries import ADDRESS, OPERATOR, entry_key
-from walrus.network.follower import Recorders, Unreachable
+from walrus.network.client import Network
+from walrus.network.follower import Recorders, Refused, Unreachable
 from walrus.network.local import Local
 from walrus.network.transfers import Failure
 
@@ -117,6 +118,29 @@ class Handover(LedgerCase):
             self.assertTrue(await view.until(lambda it: it.moving))
         for text in [*(entry_key(it, "ready", epoch) for it in NODES[:3]), entry_key("node-0", "finish", epoch)]:
             await self.user(text.partition("/")[0]).post(text)
+
+    async def test_no_epoch_begins_but_the_one_that_was_asked_about(self) -> None:
+        """Though another handover is done while this one waits for the nodes' answers."""
+        for name in NODES:
+            await self.newcomer(name)
+        other = ["node-1*2", "node-2", "node-3"]
+        for epoch, owners, refused in ((1, [], ""), (2, other, "epoch 3 comes next")):
+
+            async def meanwhile(network: Network, *_: object, epoch: int = epoch) -> None:
+                await self.operator.post(entry_key(OPERATOR, "begin", epoch, 1, FOUR))
+                await self.finish(epoch)
+                self.assertTrue(await network.until(lambda it: it.epoch == epoch))
+
+            words = {"json": False, "force": False, "yes": True, "concentrated": True, "seconds": 9}
+            told = argparse.Namespace(folder=self.folder, owners=owners, **words)
+            with contextlib.ExitStack() as stack:
+                stack.enter_context(mock.patch.object(operating, "must_answer", meanwhile))
+                said = stack.enter_context(contextlib.redirect_stdout(io.StringIO()))
+                if refused:
+                    stack.enter_context(self.assertRaisesRegex(Refused, refused))
+                self.assertEqual(await operating.hand_over(told), 0)
+            self.assertEqual(f"epoch {epoch} has begun\n" in said.getvalue(), not refused)
+            self.assertFalse(await self.epoch_begins())
 
     async def test_before_nodes_without_shards_are_removed_a_snapshot_is_asked_for(self) -> None:
         for name in (*NODES, "node-4"):

@@ -5,7 +5,8 @@ import ssl
 import unittest
 
 import aiohttp
-from ledger_case import FOUNDED, LedgerCase, registration
+from ledger_case import FOUNDED, LedgerCase, Memory, registration
+from recorder_case import RecorderCase
 from walrus.network import certificates
 from walrus.network.follower import Recorders, Refused, Unreachable
 from walrus.network.entries import ACK, ADDRESS, OPERATOR, entry_key
@@ -159,6 +160,34 @@ class Adversary(LedgerCase):
         self.assertEqual([await users[0].post(it) for it in (there, there, back, back, there)], [52, 52, 53, 53, 54])
         async with self.following(users[1]) as view:
             self.assertEqual(view.ledger.addresses["publisher"], ("127.0.0.1", 1))
+
+
+class Judged(RecorderCase):
+    async def test_what_a_batch_takes_back_is_appended_anew(self) -> None:
+        """As where etcd hangs, and a node is started at another address and at the one before meanwhile."""
+        here, there = (entry_key("node-0", ADDRESS, host, 1) for host in ("alpha", "beta"))
+        for known, texts in (([here], [there, here]), ([], [here, there, here]), ([], [here, there, here, there])):
+            self.etcd = Memory()
+            made = await self.recorder(FOUNDED, *known)
+            taken = made.post(texts)
+            while not taken.done():
+                await made.append()
+            first = made.chain.place - len(texts) + 1
+            self.assertEqual(await taken, [*range(first, first + len(texts))])
+            self.assertEqual(made.ledger.addresses, {"node-0": (texts[-1].split("/")[2], 1)})
+
+    async def test_what_is_refused_takes_nothing_of_its_poster_s_share(self) -> None:
+        made = await self.recorder(FOUNDED, entry_key(OPERATOR, "share", "x", 2))
+        texts = [
+            *(registration("x", number, until=0) for number in range(9)),
+            *(registration("x", it) for it in (1, 2, 3)),
+        ]
+        taken = made.post(texts)
+        await made.append()
+        *past, first, second, third = await taken
+        self.assertEqual({*map(str, past)}, {"that epoch is past"})
+        self.assertEqual((first, second), (3, 4))
+        self.assertEqual(str(third), "x has its share of 2 registrations in this epoch")
 
 
 if __name__ == "__main__":

@@ -7,8 +7,9 @@ import unittest
 import zlib
 from unittest import mock
 
+import aiohttp
 from ledger_case import LedgerCase, registration
-from walrus.network import connections, recorder, recording
+from walrus.network import connections, follower, recorder, recording
 from walrus.network.etcd import Batch
 from walrus.network.entries import OPERATOR, entry_key
 
@@ -139,6 +140,25 @@ class Connections(LedgerCase):
         self.assertLess(self.recorders[0].size, recorder.RECENT)
         for writer in idle:
             writer.transport.abort()
+
+
+class Addresses(LedgerCase):
+    async def test_an_address_that_takes_no_connection_hides_no_other_one(self) -> None:
+        """As where a name has an address of IPv6 too, and a firewall drops what comes to that."""
+        port = int(self.local.told()["recorders"][0].rpartition(":")[2])
+        with socket.create_server(("127.0.0.2", port), backlog=0), contextlib.ExitStack() as stack:
+            for _ in range(4):
+                filling = stack.enter_context(socket.socket())
+                filling.setblocking(False)
+                filling.connect_ex(("127.0.0.2", port))
+            words = {"port": port, "family": socket.AF_INET, "proto": 0, "flags": socket.AI_NUMERICHOST}
+            found = mock.AsyncMock(return_value=[{"host": f"127.0.0.{it}", **words} for it in (2, 1)])
+            stack.enter_context(mock.patch.object(aiohttp.ThreadedResolver, "resolve", found))
+            stack.enter_context(mock.patch.object(follower, "CONNECT", 1.0, create=True))
+            self.assertGreater(await self.user("publisher", 0).post(registration("publisher", 1)), 1)
+            resolver = follower.Resolver("alpha")
+            first = [(await resolver.resolve("recorder"))[0]["host"] for _ in range(4)]
+        self.assertEqual(first, ["127.0.0.2", "127.0.0.1"] * 2)
 
 
 if __name__ == "__main__":

@@ -2,6 +2,7 @@
 import asyncio
 import contextlib
 import io
+import json
 import os
 import shutil
 import subprocess
@@ -68,6 +69,59 @@ class Agreed(unittest.IsolatedAsyncioTestCase):
         service.tails = {"a": ["x"], "b": ["y"]}
         self.assertEqual(service.agreed(), ["x"])
         made.state.close()
+
+    async def begun(self, *texts: str) -> tuple[Memory, Chain]:
+        """An etcd whose ledger has these entries, and how far it goes."""
+        memory = Memory()
+        founder = Recorder(memory)
+        self.addCleanup(founder.state.close)
+        await founder.catch_up()
+        self.assertTrue(await founder.step(Batch(founder.chain, [*texts])))
+        return memory, founder.chain
+
+    async def tell(self, service: Restoring, name: str, heard: Chain) -> None:
+        """Has somebody follow who has heard so much, and who tells as he is asked to."""
+        request = mock.MagicMock(query={"after": str(heard.place)})
+        request.__getitem__.return_value = name
+        told = json.loads((await service.follow(request)).text or "")
+        if "tail" in told:
+            body = {"after": told["tail"], "digest": heard.digest.hex() * (told["tail"] == heard.place), "entries": []}
+            request.json = mock.AsyncMock(return_value=body)
+            await service.hear(request)
+
+    async def test_who_has_heard_less_than_etcd_has_tells_whether_it_is_the_same(self) -> None:
+        """So a recorder is found that ran over the older ledger and appended more to it than nodes had heard."""
+        memory, _ = await self.begun(FOUNDED, *(registration("stray", number) for number in range(9)))
+        service = Restoring(Recorder(memory), mock.Mock())
+        self.addCleanup(service.recorder.state.close)
+        await service.recorder.catch_up()
+        start = Chain(0, bytes.fromhex(service.recorder.state.identity)).behind([FOUNDED])
+        other = start.behind([registration("publisher", number) for number in range(5)])
+        await self.tell(service, NODES[0], start)
+        await self.tell(service, NODES[1], other)
+        await self.tell(service, "stranger", other)
+        self.assertEqual((service.tails, service.others), ({NODES[0]: []}, {NODES[1]}))
+        service.recorder.recent.clear()  # so that etcd is asked
+        await self.tell(service, NODES[2], other)
+        with self.assertRaisesRegex(Broken, "other entries up to place 10 than"):
+            await service.restore(60)
+
+    async def test_somebody_without_shards_makes_no_restore_fail_that_is_complete(self) -> None:
+        memory, end = await self.begun(FOUNDED, registration("publisher", 1))
+        memory.aclose = mock.AsyncMock()
+        for heard, chain, status in ((4, end, 0), (3, end, 0), (2, end, 1), (4, Chain(0, b""), 1)):
+
+            async def listen(service: Restoring, names: list[str] = NODES[:heard], chain: Chain = chain) -> int:
+                for name in names:
+                    await self.tell(service, name, chain)
+                service.short["publisher"] = 10**9
+                return 0
+
+            etcd, said = mock.patch.object(restoring, "etcd_of", lambda _: memory), io.StringIO()
+            with etcd, mock.patch.object(Restoring, "listen", listen):
+                with contextlib.redirect_stderr(said), contextlib.redirect_stdout(io.StringIO()):
+                    self.assertEqual(await restoring.serve(mock.Mock(), 0.1), status)
+            self.assertIn("publisher heard more than the" if status else "publisher told of more", said.getvalue())
 
     async def test_no_ledger_is_founded_where_the_snapshot_was_not_restored(self) -> None:
         memory = Memory()
@@ -171,6 +225,12 @@ class Restored(LedgerCase):
         self.assertEqual([it.lost for it in self.views.values()], [None] * 4)
 
     async def test_behind_what_a_recorder_has_appended_to_the_snapshot_nothing_is_appended(self) -> None:
+        await self.nothing_is_appended_behind([registration("stray", 99)])
+
+    async def test_that_a_recorder_has_appended_more_than_nodes_had_heard_is_found(self) -> None:
+        await self.nothing_is_appended_behind([registration("stray", number) for number in range(99)])
+
+    async def nothing_is_appended_behind(self, texts: list[str]) -> None:
         await self.upload(0, 3)
         self.etcdctl("snapshot", "save", "snapshot")
         await self.upload(3, 9)
@@ -184,7 +244,7 @@ class Restored(LedgerCase):
                 with contextlib.suppress(Failed):  # etcd has just been started
                     await stray.catch_up()
                 await asyncio.sleep(0.1)
-        self.assertTrue(await stray.step(Batch(stray.chain, [registration("stray", 99)])))
+        self.assertTrue(await stray.step(Batch(stray.chain, texts)))
         said = await self.restore(1)
         self.assertRegex(said, f"not restored: etcd has other entries up to place {stray.chain.place} than the nodes")
         self.assertTrue(await stray.step())  # it ends there still

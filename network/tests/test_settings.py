@@ -83,6 +83,12 @@ class Values(SettingsCase):
                     kinds[name].read(path)
             path.write_text(text)
 
+    async def test_a_node_at_all_addresses_says_where_others_reach_it(self) -> None:
+        [fault] = check(self.change("alpha", host='""'))[1]
+        self.assertIn("announced is missing", fault)
+        self.assertEqual(check(self.change("alpha", announced='"alpha:31500"'))[1], [])
+        self.assertEqual(check(self.change("recorder", host='""'))[1], [])
+
     async def test_what_a_setting_leaves_out_or_shuts_off_is_taken(self) -> None:
         for name, values in (
             ("alpha", {"scrub": "0", "heal": "0", "reserve": "0.0", "kept": "0"}),

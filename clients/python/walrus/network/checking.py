@@ -58,6 +58,8 @@ def faults_of_places(told: dict[str, Any]) -> list[str]:
     faults += [f"port {told['port']} is none"] if not 0 <= told.get("port", 0) < 65_536 else []
     if not re.fullmatch(r"(.*:)?\d{1,5}|", told.get("metrics", "")):
         faults.append(f"metrics {told['metrics']} is no PORT, and not HOST:PORT")
+    if "database" in told and told.get("host") == "" == told.get("announced", ""):
+        faults.append("announced is missing, as an empty host does not say where others reach the node")
     if "database" in told and not is_known_to_tls(told["name"]):
         faults.append(f"nobody reaches a node called {told['name']}: between dots a name has 1 to 63 letters")
     if "etcd" in told and not told["etcd"].startswith("https://"):

@@ -92,10 +92,10 @@ class Network(View):
         self.walrus.close()
         self.state.close()
 
-    async def begin(self, faults: int, owners: list[str]) -> None:
-        """Posts the next committee, the first one too: the nodes of its shards, and that one has more than f of them if
-        it does. Only the operator's word counts."""
-        epoch = self.ledger.epoch + bool(self.ledger.now)
+    async def begin(self, faults: int, owners: list[str], epoch: Optional[int] = None) -> None:
+        """Posts the committee of an epoch, or of the next one: the nodes of its shards, and that one has more than f of
+        them if it does. Only the operator's word counts."""
+        epoch = self.ledger.epoch + bool(self.ledger.now) if epoch is None else epoch
         if max(collections.Counter(owners).values()) > faults:
             await self.recorders.post(entry_key(self.user, "concentrated", epoch))
         await self.recorders.post(entry_key(self.user, "begin", epoch, faults, ",".join(owners)))

@@ -18,6 +18,7 @@ from .waiting import Waiting
 
 NAME = "recorder"  # which every recorder has in its certificate, and nobody else
 SILENCE, AWAY, LONGEST_LINE = 10.0, 5.0, 2**20  # seconds without a word until a recorder or the ledger is away; bytes
+CONNECT = 5.0  # seconds in which an address takes a connection
 MOST, MOST_BYTES = 1_000, 262_144  # entries that are posted at once, and their bytes
 PARTED = "it is another ledger, or one that was restored (network/OPERATING.md)"
 PASSING = (aiohttp.ClientError, ConnectionError, TimeoutError, ValueError, KeyError, TypeError)
@@ -36,14 +37,17 @@ class Parted(OSError):
 
 
 class Resolver(aiohttp.ThreadedResolver):
-    """Finds a recorder at its address, whatever name its certificate is asked for."""
+    """Finds a recorder at its address, whatever name its certificate is asked for. Each time another one of several
+    addresses comes first, as one that takes no connection hides those behind it."""
 
     def __init__(self, host: str):
         super().__init__()
-        self.host = host
+        self.host, self.turn = host, -1
 
     async def resolve(self, hostname: str, port: int = 0, family: int = 0) -> list[dict[str, Any]]:
-        return [{**it, "hostname": hostname} for it in await super().resolve(self.host, port, family)]
+        found = [{**it, "hostname": hostname} for it in await super().resolve(self.host, port, family)]
+        self.turn = (self.turn + 1) % len(found)
+        return found[self.turn :] + found[: self.turn]  # noqa: E203
 
 
 class News(NamedTuple):
@@ -123,7 +127,8 @@ class Recorders:
     async def ask(self, path: str, body: object) -> tuple[int, Any]:
         """Posts to a recorder; the status of its answer, and what it says."""
         url, session = self.known[self.at]
-        async with session.post(url + path, json=body, timeout=aiohttp.ClientTimeout(total=30)) as said:
+        limit = aiohttp.ClientTimeout(total=30, sock_connect=CONNECT)
+        async with session.post(url + path, json=body, timeout=limit) as said:
             return said.status, await said.json(content_type=None)
 
     async def mind(self, fault: BaseException, at: int, pause: float) -> float:
@@ -154,7 +159,7 @@ class Recorders:
     async def stream(self, chain: Optional[Chain], ledger: str) -> AsyncIterator[News]:
         """What one recorder says, until it is silent for too long."""
         (url, session), place = self.known[self.at], chain.place if chain else 0
-        limit = aiohttp.ClientTimeout(total=None, sock_connect=5, sock_read=SILENCE)
+        limit = aiohttp.ClientTimeout(total=None, sock_connect=CONNECT, sock_read=SILENCE)
         async with session.get(f"{url}entries", params={"after": str(place)}, timeout=limit) as said:
             read = said.content.readline
             told = json.loads(await read())

@@ -99,11 +99,14 @@ class Founding:
     def machine(self, host: str, *services: str) -> Machine:
         """The machine of a host, which then runs these services too."""
         self.plan["hosts"].setdefault(host, []).extend(services)
-        prefix = self.plan["prefix"]
-        into, unit_files = self.folder / "hosts" / host, TOP / "network" / "units"
-        if not prefix and unit_files.is_dir() and not (into / "units").exists():
-            shutil.copytree(unit_files, into / "units")
+        prefix, into = self.plan["prefix"], self.folder / "hosts" / host
         return Machine(self.folder, into, f"{prefix}/etc/walrus", f"{prefix}/var/lib/walrus", self.plan)
+
+    def give_units(self) -> None:
+        """Gives each machine the units of this version, also where it has those of an earlier one."""
+        units = TOP / "network" / "units"
+        for host in self.plan["hosts"] if units.is_dir() and not self.plan["prefix"] else ():
+            shutil.copytree(units, self.folder / "hosts" / host / "units", dirs_exist_ok=True)
 
     def nodes(self) -> list[Place]:
         return [Place(name, *it) for name, it in self.plan["nodes"].items()]
@@ -117,6 +120,7 @@ class Founding:
             self.add_gateway(place)
         for name in users:
             self.add_user(name)
+        self.give_units()
         self.save()
 
     def add_node(self, place: Place) -> None:
@@ -173,6 +177,7 @@ class Founding:
                 known, name = certificates.names_of(old), certificates.common_name(old)
                 certificates.make(path.with_suffix(""), self.folder / by, name, known, days)
                 changed.append(path)
+        self.give_units()
         return changed
 
 

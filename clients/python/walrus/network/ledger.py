@@ -141,11 +141,15 @@ class Ledger:
         return word
 
     def refused(self, entry: Entry) -> str:
-        """Enters an entry; why it changes nothing, or nothing where it counts."""
+        """Enters an entry; why it changes nothing, or nothing where it counts. What changes nothing is not appended, so
+        it takes nothing of its poster's share."""
         try:
-            return refusal(self.enter(entry))
+            why = refusal(self.enter(entry))
         except Void as void:
             return str(void)
+        if why and entry.words[1] == REGISTER:
+            self.posted[entry.words[0]] -= 1
+        return why
 
     def stands(self, entry: Entry) -> bool:
         """Whether an entry that counted says so still: what it said is not over, and no later one says otherwise."""

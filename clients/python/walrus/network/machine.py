@@ -95,11 +95,11 @@ class Place:
 
     @property
     def listens(self) -> str:
-        """Where it listens: at its address, or at all of the machine's where a name is all that is known."""
+        """Where it listens: at its address, or at all of the machine's (nothing) where a name is all that is known."""
         try:
             return str(ipaddress.ip_address(self.host))
         except ValueError:
-            return "0.0.0.0"
+            return ""
 
 
 class Machine:
@@ -131,7 +131,8 @@ class Machine:
         self.sign("etcd", name, "localhost", "127.0.0.1", place.host, by=ETCD_AUTHORITY)
         cluster = ",".join(f"{member}={peer}" for member, (_, peer) in urls.items())
         client, peer = urls[name]
-        listens = dataclasses.replace(place, host=place.listens, port=int(peer.rpartition(":")[2]))
+        every = "0.0.0.0"  # for etcd all addresses of the machine, those of IPv6 too
+        listens = dataclasses.replace(place, host=place.listens or every, port=int(peer.rpartition(":")[2]))
         words = {
             "name": name,
             "client": client,
@@ -158,8 +159,8 @@ class Machine:
         told: dict[str, Any] = {"name": place.name, "program": self.plan["program"]}
         told |= {"database": self.kept(place.name, f"{place.name}.db"), "recorders": self.plan["recorders"]}
         told |= {"authority": self.at(f"{AUTHORITY}.crt"), **self.sign(place.name, place.name, place.name, place.host)}
-        told |= {"host": place.listens, "port": place.port, "announced": place.address if self.state else "", **options}
-        write(Settings, self.into / f"{place.name}.toml", {name: it for name, it in told.items() if it != ""})
+        told |= {"host": place.listens, "port": place.port} | ({"announced": place.address} if self.state else {})
+        write(Settings, self.into / f"{place.name}.toml", told | options)
 
     def gateway(self, place: Place) -> None:
         """A gateway on loopback, as whoever reaches it may store."""

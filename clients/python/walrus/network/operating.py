@@ -99,8 +99,8 @@ async def hand_over(words: argparse.Namespace) -> int:
             tell_of(network, owners, ended)
         must_agree(f"begin epoch {epoch}?", words)
         begun = time.monotonic()
-        await network.begin(ledger.faults, owners)
-        if not await network.until(lambda it: it.epoch == epoch, words.seconds):
+        await network.begin(ledger.faults, owners, epoch)  # and no later one, if another command has begun it
+        if not await network.until(lambda it: it.epoch >= epoch, words.seconds):
             cause = network.away_since(begun) or "look at its nodes' logs"
             raise Failure(f"epoch {epoch} is not reached after {words.seconds:g} s: {cause}", 1)
         told = {"epoch": epoch, "nodes": owners, "ended": ended}
@@ -133,7 +133,7 @@ async def begin(words: argparse.Namespace) -> int:
             raise Failure(f"epoch {network.ledger.epoch} has begun before: walrus-net handover begins the next one", 1)
         await network.until(lambda it: {*owners} <= {*it.addresses}, 20)  # who has just started tells it soon
         await must_answer(network, owners, plan["faults"], False)
-        await network.begin(plan["faults"], owners)
+        await network.begin(plan["faults"], owners, 0)
         if not await network.until(lambda it: it.now):
             raise Failure("the ledger does not show the committee", 1)
     print(json.dumps({"epoch": 0, "nodes": owners}) if words.json else "epoch 0 has begun")

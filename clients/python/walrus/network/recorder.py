@@ -205,7 +205,10 @@ class Recorder:
         waiting.sort(key=lambda it: next(numbers[it[1].partition("/")[0]]))
         for (taken, _), text in zip(waiting, fitting((text for _, text in waiting[:TOGETHER]), MOST_BATCH)):
             entry = Entry(self.chain.place + len(places) + 1, text)
-            if place := places.get(text) or self.ledger.stands(entry) and self.state.place_of(text):
+            stands = fork.stands(entry)
+            if text in places and not stands:
+                break  # what came between says otherwise: it is appended anew with the next batch
+            if place := places.get(text) or stands and self.state.place_of(text):
                 answers[taken] = place
             elif reason := fork.refused(entry):
                 answers[taken] = Refused(reason)

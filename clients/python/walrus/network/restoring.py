@@ -1,6 +1,6 @@
 """Makes a ledger whole again that was restored from a snapshot of etcd: nodes are asked for the entries that they have
 heard behind it, and those on which the nodes of f+1 shards agree are appended again. No recorder runs meanwhile, and
-none has run over the older ledger: nodes tell the digest of what they have heard up to its end."""
+none has run over the older ledger: nodes tell the digest of what they have heard, up to its end at most."""
 import asyncio
 import collections
 import sys
@@ -9,7 +9,7 @@ from typing import Optional
 
 from aiohttp import web
 
-from .etcd import Batch, Failed
+from .etcd import Batch, Failed, Gone
 from .gateway import ending
 from .recorder import MOST_BATCH, POLL, Broken, Recorder
 from .recording import Service, etcd_of, wrong
@@ -21,6 +21,9 @@ OTHER = "etcd has other entries up to place {} than the nodes have heard, as a r
 OTHER += "stop all recorders, and restore the snapshot at all members of etcd once more (network/OPERATING.md)"
 STRANGE = "{} heard more than the snapshot has, but had no shards in it, so nothing of that is believed: "
 STRANGE += "restore a later snapshot, or start the nodes that had shards then and restore again (network/OPERATING.md)"
+UNBELIEVED = (
+    "{} told of more without shards in the snapshot: it is not believed, as nodes of 2f+1 shards told all they have"
+)
 
 
 class Restoring(Service):
@@ -30,7 +33,7 @@ class Restoring(Service):
         super().__init__(recorder, settings)
         self.tails: dict[str, list[str]] = {}  # what each node has behind the ledger's end, or a piece of it
         self.short: dict[str, int] = {}  # nodes that have not kept what comes next, and from where on they have
-        self.others = set[str]()  # nodes that have heard another ledger up to that end
+        self.others = set[str]()  # nodes that have heard another ledger up to that end, or up to where they are
         self.strangers = set[str]()  # who has told a tail, and had no shards up to that end
         self.told, self.progress = asyncio.Event(), 0.0
 
@@ -42,24 +45,37 @@ class Restoring(Service):
         return wrong(503, NOTHING)
 
     async def follow(self, request: web.Request) -> web.StreamResponse:
-        """Asks who has heard more than there is for what comes next."""
+        """Asks who has heard more than there is for what comes next, and each node whether it has heard the same."""
         name, after, end = request["name"], int(request.query.get("after", "0")), self.recorder.chain.place
-        if after <= end:
-            self.hears(name, [])
+        self.places[name] = after
+        if after <= end and name not in {*self.recorder.ledger.nodes} - {*self.tails} - self.others:
             return wrong(503, NOTHING)
-        return web.json_response({"error": NOTHING, "tail": end}, status=409)
+        return web.json_response({"error": NOTHING, "tail": min(after, end)}, status=409)
 
     async def hear(self, request: web.Request) -> web.Response:
-        """Takes what a node has behind the ledger's end, unless it has heard something else up to there."""
-        told, end = await request.json(), self.recorder.chain
-        if told["after"] == end.place and told.get("digest") not in (None, "", end.digest.hex()):
-            self.others |= {request["name"]} & {*self.recorder.ledger.nodes}
-            self.told.set()
-        elif told["after"] == end.place:
-            self.hears(request["name"], [it for it in told["entries"] if isinstance(it, str)])
-        elif told["after"] > end.place:
-            self.short[request["name"]] = told["after"]
+        """Takes what a node has behind the ledger's end, unless it has heard something else up to there, or up to where
+        it is."""
+        name, told, end = request["name"], await request.json(), self.recorder.chain.place
+        after, entries = told["after"], [it for it in told["entries"] if isinstance(it, str)]
+        if after > end:
+            self.short[name] = after
+        elif after == end or not entries:  # else the end has moved since it was asked
+            known = await self.digest(after, name)
+            if known and told.get("digest") not in (None, "", known):
+                self.others |= {name} & {*self.recorder.ledger.nodes}
+                self.told.set()
+            else:
+                self.hears(name, entries)
         return web.json_response({})
+
+    async def digest(self, place: int, name: str) -> str:
+        """The digest of all up to a place of the ledger, in digits; nothing if what is there is dropped."""
+        if place == self.recorder.chain.place:
+            return self.recorder.chain.digest.hex()
+        try:
+            return (await self.recorder.behind(place, name))[0].before.digest.hex()
+        except Gone:
+            return ""
 
     def hears(self, name: str, tail: list[str]) -> None:
         if name in self.recorder.ledger.nodes:
@@ -71,6 +87,11 @@ class Restoring(Service):
     def unbelieved(self) -> list[str]:
         """Who has heard more, and has no shards up to the ledger's end."""
         return sorted((self.strangers | {*self.short}) - {*self.recorder.ledger.nodes})
+
+    def is_all(self) -> bool:
+        """Whether nodes of 2f+1 shards have heard all of the ledger, and told what they have behind it."""
+        ledger, end = self.recorder.ledger, self.recorder.chain.place
+        return sum(it in self.tails and self.places.get(it, 0) >= end for it in ledger.now) >= ledger.quorum
 
     def enough(self, names: list[str]) -> bool:
         """Whether one of these nodes at least is correct."""
@@ -147,10 +168,11 @@ async def serve(settings: RecorderSettings, seconds: float) -> int:
                 first = service.short.get(name)
                 print(f"{name} {f'has kept nothing before place {first}' if first else 'was not heard at the end'}")
         print(f"{count or 0} entries are back; the ledger ends at place {recorder.chain.place}", flush=True)
+        status = 0 if count is not None else 1
         if not count and (strangers := service.unbelieved()):
-            print(STRANGE.format(", ".join(strangers)), file=sys.stderr)
-            return 1
-        return 0 if count is not None else 1
+            text, status = (UNBELIEVED, status) if service.is_all() else (STRANGE, 1)
+            print(text.format(", ".join(strangers)), file=sys.stderr)
+        return status
     except (Broken, Failed, OSError) as fault:
         print(f"the ledger is not restored: {fault}", file=sys.stderr)
         return 1
