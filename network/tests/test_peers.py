@@ -12,7 +12,7 @@ from unittest import mock
 from harness import HERE
 from walrus import client, kinds
 from walrus.frames import answer
-from walrus.network import pieces, shelf
+from walrus.network import peers, pieces, shelf
 from walrus.network.peers import FIGURES, LANES, LARGE, LOOKUPS, Peers, Seat
 
 
@@ -40,8 +40,8 @@ class Wire:
 class Storing(unittest.IsolatedAsyncioTestCase):
     async def asyncSetUp(self) -> None:
         self.wires = list[Wire]()
-        peers: Any = types.SimpleNamespace(seconds=30)
-        self.seat = Seat(peers, "node-2", 2, 1)
+        known: Any = types.SimpleNamespace(seconds=30)
+        self.seat = Seat(known, "node-2", 2, 1)
         self.enterContext(mock.patch.object(self.seat, "connection", self.connection))
 
     async def connection(self) -> Wire:
@@ -99,6 +99,14 @@ class Storing(unittest.IsolatedAsyncioTestCase):
         await self.turns()
         self.assertEqual((len(self.seat.exchanges), len(self.wires), self.seat.late), (0, LANES + 1, False))
 
+    async def test_who_hears_nothing_trusts_no_connection_that_is_as_old(self) -> None:
+        """A firewall that begins anew drops what comes over all of them, and says nothing: else each one costs a
+        request its deadline, one after the other."""
+        self.seat.idle = [*(old := [Wire() for _ in range(LANES)])]  # type: ignore[list-item]
+        with mock.patch.object(self.seat, "seconds", 0.05), self.assertRaises(ConnectionError):
+            await self.seat.ask(client.write_frame(client.Read(bytes(32))))
+        self.assertEqual(([it.is_aborted for it in old], self.seat.idle), ([True] * LANES, []))
+
     async def test_what_a_shard_says_is_told(self) -> None:
         with mock.patch.object(self.seat, "connection", mock.AsyncMock(return_value=(wire := Wire(kinds.UNVERIFIED)))):
             wire.takes.set()
@@ -107,19 +115,51 @@ class Storing(unittest.IsolatedAsyncioTestCase):
             self.assertEqual(await self.seat.store([b"a blob"]), "connection refused")
 
 
-class Threads(unittest.IsolatedAsyncioTestCase):
-    async def test_a_node_that_no_thread_looks_up_is_at_fault_alone(self) -> None:
-        """Else a store would fail that others have taken, and a gateway end that asks its nodes."""
+class Known(unittest.IsolatedAsyncioTestCase):
+    """A node that is known by a name."""
+
+    async def asyncSetUp(self) -> None:
         ledger: Any = types.SimpleNamespace(addresses={"node-2": ("node-2.example", 1)})
         with mock.patch.object(ssl, "create_default_context"):
-            peers = Peers(ledger, pathlib.Path("authority.crt"), 30)
-        self.addAsyncCleanup(peers.close)
-        [seat] = peers.seats(["node-2"], 1)
+            self.peers = Peers(ledger, pathlib.Path("authority.crt"), 30)
+        self.addAsyncCleanup(self.peers.close)
+
+
+class Addresses(Known):
+    async def connected(self, host: str, **_: Any) -> Any:
+        self.tried.append(host)
+        if host in self.silent:
+            await asyncio.sleep(1_000)
+        return host
+
+    async def test_an_address_that_drops_what_is_sent_costs_time_once(self) -> None:
+        """Else a node that has two of them is out of reach as soon as a firewall drops what is sent to the first."""
+        both = ["2001:db8::1", "192.0.2.1"]
+        self.enterContext(mock.patch.object(self.peers, "find", lambda _: asyncio.sleep(0, [*both])))
+        self.enterContext(mock.patch.object(peers, "connect", self.connected))
+        self.enterContext(mock.patch.object(peers, "FIRST", 0.05))
+        for silent, taken, tried in (
+            ([], both[0], both[:1]),
+            (both[:1], both[1], both),
+            (both[:1], both[1], both[1:]),
+            ([], both[1], both[1:]),
+            (both[1:], both[0], both[::-1]),
+            (both[1:], both[0], both[:1]),
+        ):
+            self.silent, self.tried = silent, list[str]()
+            async with asyncio.timeout(20):
+                self.assertEqual((await self.peers.connect("node-2"), self.tried), (taken, tried))
+
+
+class Threads(Known):
+    async def test_a_node_that_no_thread_looks_up_is_at_fault_alone(self) -> None:
+        """Else a store would fail that others have taken, and a gateway end that asks its nodes."""
+        [seat] = self.peers.seats(["node-2"], 1)
         said = "node-2.example cannot be looked up: can't start new thread"
-        with mock.patch.object(peers.pool, "submit", side_effect=RuntimeError("can't start new thread")):
+        with mock.patch.object(self.peers.pool, "submit", side_effect=RuntimeError("can't start new thread")):
             self.assertEqual(await seat.store([b"a blob"]), said)
             with self.assertRaisesRegex(ConnectionError, said):
-                await peers.told("node-2", FIGURES)
+                await self.peers.told("node-2", FIGURES)
 
     def test_a_gateway_has_all_of_its_threads(self) -> None:
         """Those of what is encoded, of each asyncio's own and as many processes, on a machine of 128 processors; and
