@@ -73,6 +73,20 @@ class Shared(DiskCase):
         self.assertEqual(self.store.sizes(1, 0, NAME), {METADATA: 8})
 
 
+class Torn(DiskCase):
+    async def test_a_torn_page_that_a_turn_of_the_epoch_reads_ends_the_node(self) -> None:
+        """Else it would try the same for ever, and follow the ledger no more."""
+        self.assertTrue(await self.store.durable())
+        self.store.base.execute("PRAGMA wal_checkpoint(TRUNCATE)").fetchall()
+        [(page,)] = self.store.base.execute("SELECT rootpage FROM sqlite_master WHERE name = 'sides'")
+        with open(self.store.path, "r+b") as file:
+            file.seek(4_096 * (page - 1))
+            file.write(b"\xa5" * 4_096)
+        self.store.base.execute("PRAGMA shrink_memory")  # by which SQLite reads it again
+        with self.assertRaises(sqlite3.DatabaseError):
+            await asyncio.wait_for(self.store.persist(lambda: self.store.turn(self.store.begin(1, 0))), 30)
+
+
 class Twice(DiskCase):
     async def test_only_what_was_judged_is_right_after_all(self) -> None:
         """A shard of the epoch before does not see what its successor holds, of which it has the marks."""
