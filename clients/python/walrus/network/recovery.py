@@ -239,7 +239,7 @@ async def fill(node: "Node", shard: Shard, identifier: bytes, late: bool = False
     """Recovers what a shard lacks of a blob from the others, also from those that are late if told so; whether they may
     have what is lacking still. A proof of bad encoding in its place is attested."""
     if not (metadata := await find_metadata(node, shard, identifier, late)):
-        return rounds(node, shard.number, late)[1]
+        return not late
     shape, own = node.port.shape, shard.number
     crossing = shape.shards - 1 - own if metadata[0] == client.SECOND_METADATA else own
     targets = {PRIMARY: client.Symbol(identifier, 0, own), SECONDARY: client.Symbol(identifier, 1, crossing)}
