@@ -12,7 +12,7 @@ from unittest import mock
 from harness import HERE
 from walrus import client, kinds
 from walrus.frames import answer
-from walrus.network import peers, pieces, shelf
+from walrus.network import pieces, shelf
 from walrus.network.peers import FIGURES, LANES, LARGE, LOOKUPS, Peers, Seat
 
 
@@ -40,8 +40,8 @@ class Wire:
 class Storing(unittest.IsolatedAsyncioTestCase):
     async def asyncSetUp(self) -> None:
         self.wires = list[Wire]()
-        known: Any = types.SimpleNamespace(seconds=30)
-        self.seat = Seat(known, "node-2", 2, 1)
+        peers: Any = types.SimpleNamespace(seconds=30)
+        self.seat = Seat(peers, "node-2", 2, 1)
         self.enterContext(mock.patch.object(self.seat, "connection", self.connection))
 
     async def connection(self) -> Wire:
@@ -115,17 +115,7 @@ class Storing(unittest.IsolatedAsyncioTestCase):
             self.assertEqual(await self.seat.store([b"a blob"]), "connection refused")
 
 
-class Known(unittest.IsolatedAsyncioTestCase):
-    """A node that is known by a name."""
-
-    async def asyncSetUp(self) -> None:
-        ledger: Any = types.SimpleNamespace(addresses={"node-2": ("node-2.example", 1)})
-        with mock.patch.object(ssl, "create_default_context"):
-            self.peers = Peers(ledger, pathlib.Path("authority.crt"), 30)
-        self.addAsyncCleanup(self.peers.close)
-
-
-class Addresses(Known):
+class Addresses(unittest.IsolatedAsyncioTestCase):
     async def connected(self, host: str, **_: Any) -> Any:
         self.tried.append(host)
         if host in self.silent:
@@ -134,10 +124,12 @@ class Addresses(Known):
 
     async def test_an_address_that_drops_what_is_sent_costs_time_once(self) -> None:
         """Else a node that has two of them is out of reach as soon as a firewall drops what is sent to the first."""
+        with mock.patch.object(ssl, "create_default_context"):
+            peers = Peers(mock.Mock(addresses={"node-2": ("", 1)}), pathlib.Path("authority.crt"), 30)
+        self.addAsyncCleanup(peers.close)
         both = ["2001:db8::1", "192.0.2.1"]
-        self.enterContext(mock.patch.object(self.peers, "find", lambda _: asyncio.sleep(0, [*both])))
-        self.enterContext(mock.patch.object(peers, "connect", self.connected))
-        self.enterContext(mock.patch.object(peers, "FIRST", 0.05))
+        self.enterContext(mock.patch.object(peers, "find", lambda _: asyncio.sleep(0, [*both])))
+        self.enterContext(mock.patch.multiple("walrus.network.peers", connect=self.connected, FIRST=0.05))
         for silent, taken, tried in (
             ([], both[0], both[:1]),
             (both[:1], both[1], both),
@@ -148,18 +140,22 @@ class Addresses(Known):
         ):
             self.silent, self.tried = silent, list[str]()
             async with asyncio.timeout(20):
-                self.assertEqual((await self.peers.connect("node-2"), self.tried), (taken, tried))
+                self.assertEqual((await peers.connect("node-2"), self.tried), (taken, tried))
 
 
-class Threads(Known):
+class Threads(unittest.IsolatedAsyncioTestCase):
     async def test_a_node_that_no_thread_looks_up_is_at_fault_alone(self) -> None:
         """Else a store would fail that others have taken, and a gateway end that asks its nodes."""
-        [seat] = self.peers.seats(["node-2"], 1)
+        ledger: Any = types.SimpleNamespace(addresses={"node-2": ("node-2.example", 1)})
+        with mock.patch.object(ssl, "create_default_context"):
+            peers = Peers(ledger, pathlib.Path("authority.crt"), 30)
+        self.addAsyncCleanup(peers.close)
+        [seat] = peers.seats(["node-2"], 1)
         said = "node-2.example cannot be looked up: can't start new thread"
-        with mock.patch.object(self.peers.pool, "submit", side_effect=RuntimeError("can't start new thread")):
+        with mock.patch.object(peers.pool, "submit", side_effect=RuntimeError("can't start new thread")):
             self.assertEqual(await seat.store([b"a blob"]), said)
             with self.assertRaisesRegex(ConnectionError, said):
-                await self.peers.told("node-2", FIGURES)
+                await peers.told("node-2", FIGURES)
 
     def test_a_gateway_has_all_of_its_threads(self) -> None:
         """Those of what is encoded, of each asyncio's own and as many processes, on a machine of 128 processors; and

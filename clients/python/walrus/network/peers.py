@@ -16,8 +16,8 @@ from .ledger import Ledger
 from .limits import read_address
 
 LOOKUPS = 32  # names that are looked up at once, one of a node
+FIRST = 2.0  # seconds in which an address of a node is to take a connection, before another one is tried
 LANES, LARGE = 8, 4_194_304  # exchanges with a shard at once; bytes of a large one
-FIRST = 2.0  # seconds in which an address of a node takes a connection, before another one of its is tried
 FIGURES, SCRUB = b"\x60", b"\x61"  # requests of an operator: a node's figures, and these once it begins a scrub
 
 
