@@ -67,11 +67,15 @@ class Defragmented(LedgerCase):
     async def test_no_recorder_puts_a_piece_in_place_of_another_one_s(self) -> None:
         """Two of different versions may write a checkpoint of one place: one of both is not what its mark says then."""
         one, other = (it.etcd for it in self.recorders)
+        text = b"a line of many\n" * 1_000
+        piece = zlib.compress(text, 1)
         for etcd in (one, other):
-            await etcd.put_piece(5, 0, b"piece")
-        with self.assertRaisesRegex(Failed, "another checkpoint of this place"):
-            await other.put_piece(5, 0, b"another")
-        self.assertEqual(await one.piece(5, 0), b"piece")
+            await etcd.put_piece(5, 0, piece)
+        await other.put_piece(5, 0, zlib.compress(text, 9))  # the same as another zlib packs it
+        for another in (zlib.compress(b"another"), b"packed by nothing that is known"):
+            with self.assertRaisesRegex(Failed, "another checkpoint of this place"):
+                await other.put_piece(5, 0, another)
+        self.assertEqual(await one.piece(5, 0), piece)
 
 
 class Checkpoints(unittest.IsolatedAsyncioTestCase):

@@ -99,12 +99,48 @@ class Storing(unittest.IsolatedAsyncioTestCase):
         await self.turns()
         self.assertEqual((len(self.seat.exchanges), len(self.wires), self.seat.late), (0, LANES + 1, False))
 
+    async def test_who_hears_nothing_trusts_no_connection_that_is_as_old(self) -> None:
+        """A firewall that begins anew drops what comes over all of them, and says nothing: else each one costs a
+        request its deadline, one after the other."""
+        self.seat.idle = [*(old := [Wire() for _ in range(LANES)])]  # type: ignore[list-item]
+        with mock.patch.object(self.seat, "seconds", 0.05), self.assertRaises(ConnectionError):
+            await self.seat.ask(client.write_frame(client.Read(bytes(32))))
+        self.assertEqual(([it.is_aborted for it in old], self.seat.idle), ([True] * LANES, []))
+
     async def test_what_a_shard_says_is_told(self) -> None:
         with mock.patch.object(self.seat, "connection", mock.AsyncMock(return_value=(wire := Wire(kinds.UNVERIFIED)))):
             wire.takes.set()
             self.assertEqual(await self.seat.store([b"a blob"]), "store at shard 2: unverified")
         with mock.patch.object(self.seat, "connection", side_effect=ConnectionRefusedError(111, "refused")):
             self.assertEqual(await self.seat.store([b"a blob"]), "connection refused")
+
+
+class Addresses(unittest.IsolatedAsyncioTestCase):
+    async def connected(self, host: str, **_: Any) -> Any:
+        self.tried.append(host)
+        if host in self.silent:
+            await asyncio.sleep(1_000)
+        return host
+
+    async def test_an_address_that_drops_what_is_sent_costs_time_once(self) -> None:
+        """Else a node that has two of them is out of reach as soon as a firewall drops what is sent to the first."""
+        with mock.patch.object(ssl, "create_default_context"):
+            peers = Peers(mock.Mock(addresses={"node-2": ("", 1)}), pathlib.Path("authority.crt"), 30)
+        self.addAsyncCleanup(peers.close)
+        both = ["2001:db8::1", "192.0.2.1"]
+        self.enterContext(mock.patch.object(peers, "find", lambda _: asyncio.sleep(0, [*both])))
+        self.enterContext(mock.patch.multiple("walrus.network.peers", connect=self.connected, FIRST=0.05))
+        for silent, taken, tried in (
+            ([], both[0], both[:1]),
+            (both[:1], both[1], both),
+            (both[:1], both[1], both[1:]),
+            ([], both[1], both[1:]),
+            (both[1:], both[0], both[::-1]),
+            (both[1:], both[0], both[:1]),
+        ):
+            self.silent, self.tried = silent, list[str]()
+            async with asyncio.timeout(20):
+                self.assertEqual((await peers.connect("node-2"), self.tried), (taken, tried))
 
 
 class Threads(unittest.IsolatedAsyncioTestCase):

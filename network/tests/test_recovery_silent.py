@@ -2,6 +2,7 @@
 import asyncio
 import collections
 import contextlib
+import itertools
 import struct
 import types
 import unittest
@@ -20,6 +21,7 @@ SHAPE = client.Shape(FAULTS)
 METADATA = bytes([client.METADATA]) + struct.pack(">HQ", FAULTS, 30) + bytes(64 * SHAPE.shards)
 NAMES = [it.to_bytes(32, "big") for it in range(96)]
 OWNERS = ["c", "d", "a", "a", "b", "e", "e"]  # who has each shard: c and d lack all, e says nothing
+FIND = recovery.find_metadata
 FULL, SILENT = (2, 3, 4), (5, 6)
 
 
@@ -187,6 +189,42 @@ class Silent(unittest.IsolatedAsyncioTestCase):
         with mock.patch.multiple(recovery, PAGE=8, MANY=20, recover_all=listing):
             self.assertEqual(await recovery.settle(node, 0, NAMES), 1)
         self.assertEqual((listed, node.progress.blobs), ([24] * 4, len(NAMES) - 1))
+
+    async def test_what_nobody_has_holds_up_nothing_that_is_certified(self) -> None:
+        """Else a node that lost its disk stays empty, as somebody has had it keep many blobs that no other node has."""
+        node, certified = self.node(0), NAMES[:2]
+        node.ledger.certificate, node.store.parts = certified.__contains__, lambda *_: []
+
+        async def find(node: Any, shard: Any, identifier: bytes, *late: bool) -> bytes:
+            return METADATA if identifier in certified else await FIND(node, shard, identifier, *late)
+
+        for number, name in itertools.product(FULL, NAMES[2:]):
+            self.shards[number].held[name] = set()
+        for name in certified:
+            self.shards[1].held[name] = {SECONDARY}
+        with mock.patch.object(recovery, "find_metadata", find):
+            settling = asyncio.create_task(recovery.settle(node, 0, NAMES))
+            async with asyncio.timeout(60):
+                await self.waits.wait()
+                self.assertEqual([*map(self.shards[0].settled, certified)], [True] * 2)
+                self.assertEqual(await settling, len(NAMES) - 2)
+        self.assertLessEqual(self.waited, len(SILENT) * recovery.LANES)
+
+    async def test_who_says_nothing_is_not_waited_for_before_it_is_late(self) -> None:
+        node, is_over = self.node(0), asyncio.Event()
+        seats, node.store.parts = node.peers.seats(OWNERS, FAULTS), lambda *_: []
+
+        async def exchange(requests: Sequence[Any]) -> list[client.Reply]:
+            await is_over.wait()
+            raise ConnectionError("no whole reply")
+
+        for number in SILENT:
+            seats[number].late, seats[number].exchange = False, exchange
+        self.enterContext(mock.patch.multiple("walrus.shards", LEAST=0.01, MOST=0.01))
+        async with asyncio.timeout(30):
+            self.assertEqual(await FIND(node, self.shards[0], NAMES[0]), b"")
+        self.assertEqual([(seats[it].late, len(seats[it].exchanges)) for it in SILENT], [(True, 1)] * 2)
+        is_over.set()
 
     async def test_nodes_that_recover_the_same_not_in_step_do_not_wait_for_it_blob_by_blob(self) -> None:
         async def later() -> None:

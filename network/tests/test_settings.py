@@ -11,7 +11,7 @@ from typing import Any
 from unittest import mock
 
 import harness  # noqa: F401
-from walrus.network import certificates, commands, operators, units
+from walrus.network import certificates, commands, operators, tokens, units
 from walrus.network.checking import check
 from walrus.network.configuration import Wrong
 from walrus.network.machine import Machine, Place, Unfounded
@@ -168,6 +168,12 @@ class Root(SettingsCase):
         )
         self.assertIn("is ended above 4294967296 bytes (MemoryMax), and memory is 6000000000", said[1])
 
+    async def test_so_is_what_a_gateway_writes_without_being_told(self) -> None:
+        path = self.change("gate", tokens='""', used='""', state='"/var/lib/walrus/alpha/a.ledger"')
+        said = [it for it in check(path)[2] if "cannot write" in it]
+        self.assertEqual(len(said), 1, said)
+        self.assertIn(f"cannot write used to {self.folder}/tokens.used, but only below /var/lib/walrus/alpha", said[0])
+
 
 class Names(SettingsCase):
     async def found(self, *more: object) -> str:
@@ -205,12 +211,16 @@ class Names(SettingsCase):
         self.assertIn("nobody reaches a node called a..b", check(self.change("alpha", name='"a..b"'))[1][0])
 
     async def test_under_any_umask_all_may_read_what_services_read(self) -> None:
-        before = os.umask(0o077)
+        before, office = os.umask(0o077), self.folder / "net" / "hosts" / "office"
+        self.enterContext(contextlib.redirect_stdout(io.StringIO()))
         try:
             await self.found("--gateway", "gate=office")
+            with mock.patch("sys.argv", ["walrus-net", "token", "alice", "--folder", str(office), "--json"]):
+                tokens.run(commands.parse())
             self.assertEqual(os.umask(0o077), 0o077)
         finally:
             os.umask(before)
+        self.assertTrue((office / "tokens.json").exists())
         for path in (self.folder / "net" / "hosts").rglob("*"):
             wanted = 0o755 if path.is_dir() else 0o600 if path.suffix == ".key" else 0o644
             self.assertEqual(path.stat().st_mode & 0o777, wanted, path)

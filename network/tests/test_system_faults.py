@@ -73,6 +73,20 @@ class Shared(DiskCase):
         self.assertEqual(self.store.sizes(1, 0, NAME), {METADATA: 8})
 
 
+class Torn(DiskCase):
+    async def test_a_torn_page_that_a_turn_of_the_epoch_reads_ends_the_node(self) -> None:
+        """Else it would try the same for ever, and follow the ledger no more."""
+        self.assertTrue(await self.store.durable())
+        self.store.base.execute("PRAGMA wal_checkpoint(TRUNCATE)").fetchall()
+        [(page,)] = self.store.base.execute("SELECT rootpage FROM sqlite_master WHERE name = 'sides'")
+        with open(self.store.path, "r+b") as file:
+            file.seek(4_096 * (page - 1))
+            file.write(b"\xa5" * 4_096)
+        self.store.base.execute("PRAGMA shrink_memory")  # by which SQLite reads it again
+        with self.assertRaises(sqlite3.DatabaseError):
+            await asyncio.wait_for(self.store.persist(lambda: self.store.turn(self.store.begin(1, 0))), 30)
+
+
 class Twice(DiskCase):
     async def test_only_what_was_judged_is_right_after_all(self) -> None:
         """A shard of the epoch before does not see what its successor holds, of which it has the marks."""
@@ -93,17 +107,19 @@ class Twice(DiskCase):
 
 
 class Manager(unittest.IsolatedAsyncioTestCase):
-    async def test_who_has_no_descriptor_left_is_heard_to_live(self) -> None:
-        """Else the watchdog ends a service that would go on once others are free."""
+    async def asyncSetUp(self) -> None:
         folder = self.enterContext(tempfile.TemporaryDirectory())
-        manager = self.enterContext(socket.socket(socket.AF_UNIX, socket.SOCK_DGRAM))
-        manager.bind(f"{folder}/notify")
-        manager.settimeout(5)
+        self.manager = self.enterContext(socket.socket(socket.AF_UNIX, socket.SOCK_DGRAM))
+        self.manager.bind(f"{folder}/notify")
+        self.manager.settimeout(5)
         told = {"NOTIFY_SOCKET": f"{folder}/notify", "WATCHDOG_USEC": "300000"}
         self.enterContext(mock.patch.dict(os.environ, told))
         self.enterContext(contextlib.redirect_stdout(io.StringIO()))
+
+    async def test_who_has_no_descriptor_left_is_heard_to_live(self) -> None:
+        """Else the watchdog ends a service that would go on once others are free."""
         notify.ready("here")
-        self.assertEqual([manager.recv(99) for _ in range(2)], [b"READY=1", b"WATCHDOG=1"])
+        self.assertEqual([self.manager.recv(99) for _ in range(2)], [b"READY=1", b"WATCHDOG=1"])
         soft, hard = resource.getrlimit(resource.RLIMIT_NOFILE)
         free = os.dup(0)  # below it all are taken
         os.close(free)
@@ -112,7 +128,26 @@ class Manager(unittest.IsolatedAsyncioTestCase):
         with self.assertRaises(OSError):
             os.dup(0)
         await asyncio.sleep(0.25)
-        self.assertEqual(manager.recv(99), b"WATCHDOG=1")
+        self.assertEqual(self.manager.recv(99), b"WATCHDOG=1")
+
+    async def test_a_manager_that_reads_nothing_holds_up_nobody(self) -> None:
+        """Else every service of a machine stands still soon after its systemd does, and nobody starts it again."""
+        other, count = self.enterContext(socket.socket(socket.AF_UNIX, socket.SOCK_DGRAM)), 0
+        other.setblocking(False)
+        with contextlib.suppress(BlockingIOError):
+            while True:
+                other.sendto(b"", self.manager.getsockname())
+                count += 1
+        telling = threading.Thread(target=notify.alive, daemon=True)
+        telling.start()
+        telling.join(10)
+        self.assertFalse(telling.is_alive())
+        self.enterContext(mock.patch.object(notify, "SOON", 0.01))
+        notify.ready("here")
+        self.assertEqual([self.manager.recv(99) for _ in range(count)], [b""] * count)
+        async with asyncio.timeout(30):
+            while await asyncio.to_thread(self.manager.recv, 99) != b"READY=1":
+                pass
 
 
 class Start(DiskCase):

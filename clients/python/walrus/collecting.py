@@ -34,9 +34,10 @@ class Listening:
         """What the next shard is asked."""
         return self.request
 
-    async def next(self) -> list[tuple[int, dict[int, bytes], str]]:
-        """What some of them say; nothing where those that were asked are late."""
-        patience = patience_for(self.pending.values()) if self.left else None
+    async def next(self, waits: bool = True) -> list[tuple[int, dict[int, bytes], str]]:
+        """What some of them say; nothing where those that were asked are late. The last ones are waited for however
+        late they are, unless told otherwise."""
+        patience = None if waits and not self.left else patience_for(self.pending.values())
         done, late = await asyncio.wait(self.pending, timeout=patience, return_when=asyncio.FIRST_COMPLETED)
         for task in () if done else late:
             self.pending[task].late = True

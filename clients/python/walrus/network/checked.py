@@ -106,3 +106,13 @@ def mode_of(path: str) -> int:
     mask = os.umask(0)
     os.umask(mask)
     return 0o666 & ~mask
+
+
+@contextlib.contextmanager
+def readable() -> Iterator[None]:
+    """Has what is written be for all to read, as services are users of their own; keys have a mode of their own."""
+    before = os.umask(0o022)
+    try:
+        yield
+    finally:
+        os.umask(before)

@@ -7,6 +7,7 @@ import functools
 import json
 import re
 import ssl
+import zlib
 from typing import Any, Callable, Coroutine, Optional, TypeVar
 
 import aiohttp
@@ -187,8 +188,13 @@ class Etcd:
         words: dict[str, Any] = {"compare": [{"key": key, "target": "CREATE", "create_revision": "0"}]}
         words["success"] = [{"request_put": {"key": key, "value": value}}]
         answer = await self.call("kv/txn", words | {"failure": [{"request_range": {"key": key}}]})
-        if not answer.get("succeeded") and answer["responses"][0]["response_range"]["kvs"][0]["value"] != value:
-            raise Failed("another recorder writes another checkpoint of this place, such as one of another version")
+        if answer.get("succeeded"):
+            return
+        found = base64.b64decode(answer["responses"][0]["response_range"]["kvs"][0]["value"])
+        with contextlib.suppress(zlib.error):
+            if zlib.decompress(found) == zlib.decompress(piece):  # another zlib may pack the same into other bytes
+                return
+        raise Failed("another recorder writes another checkpoint of this place, such as one of another version")
 
     async def piece(self, place: int, number: int) -> bytes:
         """A piece of a checkpoint, packed."""

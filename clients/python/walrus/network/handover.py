@@ -150,9 +150,10 @@ async def hand_over(node: "Node") -> None:
 
 async def move(node: "Node") -> None:
     """Does this node's part of the move that is under way, until it is finished."""
-    ledger, pause, said = node.ledger, 0.2, 0
+    ledger, pause, said, clock = node.ledger, 0.2, 0, asyncio.get_running_loop().time
     epoch = ledger.epoch + 1
     while ledger.moving and ledger.epoch + 1 == epoch:
+        begun = clock()
         own, revision = set(node.sides.get(epoch, ())), ledger.revision  # none until the begin is on the disk
         async with passing(node.name, f"epoch {epoch}"):
             left = 0 if own <= ledger.ready else await settle(node, epoch, ledger.must_hold())
@@ -163,5 +164,7 @@ async def move(node: "Node") -> None:
                 await node.recorders.post(entry_key(node.name, "ready", epoch))
             if own and ledger.moving and len(ledger.ready) >= ledger.quorum:
                 await node.recorders.post(entry_key(node.name, "finish", epoch))
+        if said:  # it goes over all live blobs again, and others are to have turns, however many entries come
+            await asyncio.sleep(min(LATEST, 2 * (clock() - begun)))
         await node.until(lambda it: it.revision != revision, pause)
         pause = min(2 * pause, 5.0)

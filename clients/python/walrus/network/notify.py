@@ -8,12 +8,16 @@ import threading
 from typing import Iterator
 
 EACH, MORE = 20.0, 300  # seconds: until more time is asked for again; what is left of a start from then on, at least
+SOON = 1.0  # seconds until a manager that took nothing is told again that a service is ready
 
 
 @functools.cache
 def sender() -> socket.socket:
-    """By which the manager is told: kept, as a service that has no descriptor left goes on, and is to be heard."""
-    return socket.socket(socket.AF_UNIX, socket.SOCK_DGRAM)
+    """By which the manager is told: kept, as a service that has no descriptor left goes on, and is to be heard. It does
+    not block, as a manager that hangs reads nothing, and its services go on nevertheless."""
+    made = socket.socket(socket.AF_UNIX, socket.SOCK_DGRAM)
+    made.setblocking(False)
+    return made
 
 
 def notify(text: str) -> None:
@@ -54,11 +58,19 @@ def extending() -> Iterator[None]:
         yield
     finally:
         over.set()
-        thread.join(1)  # and no longer, as a service manager that hears nothing holds it up
+        thread.join()
+
+
+def tell_ready() -> None:
+    """Tells the manager that a service is ready, again and again while it takes nothing."""
+    try:
+        notify("READY=1")
+    except BlockingIOError:
+        asyncio.get_running_loop().call_later(SOON, tell_ready)
 
 
 def ready(text: str) -> None:
     """Says in a line that a service answers from here on, to the service manager too."""
     print(text, flush=True)
-    notify("READY=1")
+    tell_ready()
     beat()

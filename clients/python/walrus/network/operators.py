@@ -1,12 +1,11 @@
 """The commands of walrus-net that operators use: their words, and what needs no ledger."""
 import argparse
-import contextlib
 import dataclasses
-import os
-from typing import Any, Awaitable, Callable, Iterator
+from typing import Any, Awaitable, Callable
 
 from . import exposure, gateway, node, operating, recording, restoring, up
 from .certificates import AUTHORITY_DAYS, DAYS
+from .checked import readable
 from .checking import check
 from .client import Access
 from .configuration import faults_of_values
@@ -103,16 +102,6 @@ async def restore(words: argparse.Namespace) -> int:
 
 async def run_up(words: argparse.Namespace) -> int:
     return await up.up(words, options_of(words))
-
-
-@contextlib.contextmanager
-def readable() -> Iterator[None]:
-    """Has what is written be for all to read, as services are users of their own; keys have a mode of their own."""
-    before = os.umask(0o022)
-    try:
-        yield
-    finally:
-        os.umask(before)
 
 
 async def found_all(words: argparse.Namespace) -> int:

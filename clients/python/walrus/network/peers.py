@@ -16,6 +16,7 @@ from .ledger import Ledger
 from .limits import read_address
 
 LOOKUPS = 32  # names that are looked up at once, one of a node
+FIRST = 2.0  # seconds in which an address of a node is to take a connection, before another one is tried
 LANES, LARGE = 8, 4_194_304  # exchanges with a shard at once; bytes of a large one
 FIGURES, SCRUB = b"\x60", b"\x61"  # requests of an operator: a node's figures, and these once it begins a scrub
 
@@ -65,6 +66,7 @@ class Seat(client.Shard):
                 else:
                     replies, _ = await asyncio.gather(self.hear(wire, requests), self.send(wire, requests))
         except (EOFError, OSError, ValueError) as error:
+            await self.drop()  # what is older may be as dead: a firewall that forgets one connection forgets all
             raise ConnectionError(client.fault_in_words(error, self.seconds)) from None
         else:
             self.idle.append(wire)
@@ -90,8 +92,8 @@ class Seat(client.Shard):
         return "" if done else f"store at shard {self.number}: {client.in_words(reply.end)}"
 
     async def drop(self) -> str:
-        for wire in self.idle:
-            wire.transport.abort()
+        while self.idle:
+            self.idle.pop().transport.abort()
         return ""
 
 
@@ -103,6 +105,7 @@ class Peers:
         self.context = ssl.create_default_context(cafile=str(authority))
         self.kept = dict[tuple[str, int], Seat]()
         self.pool = concurrent.futures.ThreadPoolExecutor(LOOKUPS, "names")  # and not asyncio's own, which is for all
+        self.taken = dict[str, str]()  # the address of each node that took a connection last
         self.sought = dict[str, "asyncio.Future[list[Any]]"]()  # what is looked up for each node
 
     def address(self, name: str) -> tuple[str, int]:
@@ -112,16 +115,23 @@ class Peers:
         return self.ledger.addresses[name]
 
     async def connect(self, name: str) -> Wire:
-        """A connection to a node, at the first of its addresses that takes one."""
+        """A connection to a node, at the first of its addresses that takes one soon. The one that took the last is
+        tried first, so that another one which drops what is sent there, as firewalls do, costs time once."""
         port, hosts = self.address(name)[1], await self.find(name)
+        *others, last = sorted(hosts, key=lambda it: it != self.taken.get(name))
         to = functools.partial(connect, port=port, ssl=self.context, server_hostname=name)
-        for host in hosts[:-1]:
-            with contextlib.suppress(OSError):
-                return await to(host)
+        for host in others:
+            with contextlib.suppress(OSError):  # such as `TimeoutError`
+                async with asyncio.timeout(min(FIRST, self.seconds / len(hosts))):
+                    wire = await to(host)
+                self.taken[name] = host
+                return wire
         try:
-            return await to(hosts[-1])
+            wire = await to(last)
         except ssl.SSLCertVerificationError as fault:
             raise ConnectionError(f"it has no certificate of {name}: {fault.verify_message}") from None
+        self.taken[name] = last
+        return wire
 
     async def find(self, name: str) -> list[str]:
         """The addresses of a node. Its name is looked up once at a time, in a thread of its own, as one may be told

@@ -80,7 +80,9 @@ class Own(client.Shard):
 
     async def ask(self, *requests: client.Request) -> list[client.Reply]:
         [request] = map(bytes, requests)  # type: ignore[arg-type]
-        *found, end = await self.shard.answer(request)
+        answering = asyncio.create_task(self.shard.answer(request))  # it ends where nobody waits, as it has memory
+        answering.add_done_callback(lambda it: it.cancelled() or it.exception())
+        *found, end = await asyncio.shield(answering)
         kept = {kind: bytes(it) for it in found if (kind := self.shape.keeps(it, request, self.number))}
         return [client.Reply(kept, frames.read_frame(end))]
 
@@ -141,18 +143,20 @@ async def lacking(node: "Node", epoch: int, owed: Iterable[bytes]) -> AsyncItera
 
 
 async def recover_all(node: "Node", work: list[Lack], progress: Progress) -> int:
-    """Recovers what shards lack, certified blobs first, and of these large ones, several at once; how many are lacking
-    still. Who is late is waited for once all blobs had their turn: nodes that recover the same then have what they got
-    from the others, and give each other the rest."""
-    sizes, certified, put_off = dict[Lack, int](), set[Lack](), list[Lack]()
+    """Recovers what shards lack, large blobs first and several at once; how many are lacking still. Certified ones come
+    before the others, of which perhaps nobody has anything. Who is late is waited for once all of them had their turn:
+    nodes that recover the same then have what they got from the others, and give each other the rest. For blobs without
+    a certificate it is waited for a few times only, and asked for the rest if it replies."""
+    sizes, put_off, certified, others = dict[Lack, int](), list[Lack](), list[Lack](), list[Lack]()
     if not work[0].shard.free_pages(LAST):  # what comes could not be kept
         tell_full(node)
         return len(work)
     node.progress = progress
 
+    async def part(lack: Lack) -> None:
+        (certified if node.ledger.certificate(lack.identifier) else others).append(lack)
+
     async def measure(lack: Lack) -> None:
-        if node.ledger.certificate(lack.identifier):
-            certified.add(lack)
         if node.store.wrong(lack.shard.holding, lack.identifier):
             await lack.shard.check(lack.identifier)  # it is right after all if the disk had failed for a moment
         if lack.shard.wants(lack.identifier) and (metadata := await find_metadata(node, *lack)):
@@ -166,10 +170,14 @@ async def recover_all(node: "Node", work: list[Lack], progress: Progress) -> int
         if lack.shard.settled(lack.identifier):
             progress.blobs, progress.bytes = progress.blobs + 1, progress.bytes + sizes.get(lack, 0)
 
-    await by_lanes(node, work, measure)
-    work.sort(key=lambda it: (it in certified, sizes.get(it, 0)), reverse=True)
-    await by_lanes(node, work, functools.partial(recover, fill))
-    await by_lanes(node, put_off, functools.partial(recover, functools.partial(fill, late=True)))
+    await by_lanes(node, work, part)
+    for some, waits in (certified, len(certified)), (others, LANES):
+        await by_lanes(node, some, measure)
+        some.sort(key=lambda it: sizes.get(it, 0), reverse=True)
+        await by_lanes(node, some, functools.partial(recover, fill))
+        late, put_off[:] = [*put_off], []
+        await by_lanes(node, late[:waits], functools.partial(recover, functools.partial(fill, late=True)))
+        await by_lanes(node, late[waits:], functools.partial(recover, fill))
     left = 0
     for place in range(0, len(work), PAGE):
         left += sum(not shard.settled(it) for shard, it in work[place : place + PAGE])  # noqa: E203
@@ -199,8 +207,9 @@ def rounds(node: "Node", own: int, late: bool) -> tuple[list[list[Seat]], bool]:
     return (asked + others, False) if late else (asked, bool(others))
 
 
-async def find_metadata(node: "Node", shard: Shard, identifier: bytes) -> bytes:
-    """A blob's metadata, which the shard holds from here on; nothing where nobody has it."""
+async def find_metadata(node: "Node", shard: Shard, identifier: bytes, late: bool = False) -> bytes:
+    """A blob's metadata, which the shard holds from here on; nothing where nobody has it. Who is late, or comes to be,
+    is waited for only if told so."""
 
     async def is_it(found: bytes) -> bool:
         fits = bool(found) and name_of(found) == identifier
@@ -211,11 +220,14 @@ async def find_metadata(node: "Node", shard: Shard, identifier: bytes) -> bytes:
             if own is shard or await is_it(part.payload):
                 return part.payload
     wanted = client.Symbol(identifier, client.PRIMARY, 999)  # which brings little else
-    listening = client.Listening([*itertools.chain(*sides(node))], Asked.of(client.write_frame(wanted), 0, 0))
+    seats = [it for it in itertools.chain(*sides(node)) if late or not it.late]
+    listening, are_prompt = client.Listening(seats, Asked.of(client.write_frame(wanted), 0, 0)), True
     try:
-        while not listening.is_over():
+        while are_prompt and not listening.is_over():
             listening.ask(1)
-            for found in [kept.get(client.METADATA, b"") for _, kept, _ in await listening.next()]:
+            heard = await listening.next(late)
+            are_prompt = bool(heard or listening.left)
+            for found in [kept.get(client.METADATA, b"") for _, kept, _ in heard]:
                 if await is_it(found):
                     return found
     finally:
@@ -226,8 +238,8 @@ async def find_metadata(node: "Node", shard: Shard, identifier: bytes) -> bytes:
 async def fill(node: "Node", shard: Shard, identifier: bytes, late: bool = False) -> bool:
     """Recovers what a shard lacks of a blob from the others, also from those that are late if told so; whether they may
     have what is lacking still. A proof of bad encoding in its place is attested."""
-    if not (metadata := await find_metadata(node, shard, identifier)):
-        return False
+    if not (metadata := await find_metadata(node, shard, identifier, late)):
+        return not late
     shape, own = node.port.shape, shard.number
     crossing = shape.shards - 1 - own if metadata[0] == client.SECOND_METADATA else own
     targets = {PRIMARY: client.Symbol(identifier, 0, own), SECONDARY: client.Symbol(identifier, 1, crossing)}

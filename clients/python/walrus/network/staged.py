@@ -89,9 +89,10 @@ class Staged(Database):
 
     def lose(self, fault: Exception) -> None:
         """Rolls back what was staged, and tells at once who relied on it."""
-        self.tell(fault)
-        if type(fault) is sqlite3.DatabaseError:  # pages are torn, which no later attempt mends
+        if type(fault) is sqlite3.DatabaseError:  # pages are torn
             self.fail(fault)
+        else:
+            self.tell(fault)
         self.losses += 1
         if self.base.in_transaction:
             self.base.execute("ROLLBACK")
@@ -177,9 +178,10 @@ class Staged(Database):
         return written is None or await asyncio.shield(written)
 
     async def persist(self, stage: Callable[[], None]) -> None:
-        """Puts on the disk what must be there before the node goes on, however long that takes."""
+        """Puts on the disk what must be there before the node goes on, however long that takes. Raises where pages are
+        torn, which no later attempt mends."""
         while True:
-            with contextlib.suppress(sqlite3.Error):
+            with contextlib.suppress(sqlite3.OperationalError):
                 stage()
                 if self.flush() and await self.durable():
                     return

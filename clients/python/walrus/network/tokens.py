@@ -9,7 +9,7 @@ import secrets
 import sys
 from typing import Any, Iterable, Optional
 
-from .checked import written_whole
+from .checked import readable, written_whole
 from .entries import NAME
 
 RIGHTS = READ, STORE = "read", "store"
@@ -122,7 +122,8 @@ def run(words: argparse.Namespace) -> None:
     """Makes a token, or removes one, as a command says; a token is told once."""
     path = pathlib.Path(words.tokens or pathlib.Path(words.folder, "tokens.json"))
     bounds = {it: getattr(words, it) for it in BOUNDS if getattr(words, it) is not None}
-    made = change_token(path, words.name, None if words.remove else {"rights": rights_of(words.rights), **bounds})
+    with readable():  # it has digests alone
+        made = change_token(path, words.name, None if words.remove else {"rights": rights_of(words.rights), **bounds})
     if words.json:
         print(json.dumps({"name": words.name, "token": made or None, "removed": words.remove}))
     elif made:

@@ -1,0 +1,71 @@
+"""What a node does in a move of the epoch, and for blobs that it recovers, beside what its disk and others have."""
+import asyncio
+import contextlib
+import io
+import types
+import unittest
+from typing import Any
+from unittest import mock
+
+import harness  # noqa: F401  # which says where walrus is
+from walrus import client
+from walrus.frames import answer
+from walrus.network import handover
+from walrus.network.recovery import Own
+from walrus.network.waiting import Waiting
+
+
+class Moves(unittest.IsolatedAsyncioTestCase):
+    async def test_what_is_lacking_is_not_looked_for_anew_at_each_entry(self) -> None:
+        """Else a node goes over all live blobs without a pause while others register."""
+        settled, waiting = 0, Waiting()
+
+        async def settle(*_: object) -> int:
+            nonlocal settled
+            settled += 1
+            await asyncio.sleep(0.1)
+            return 1
+
+        ledger: Any = types.SimpleNamespace(epoch=0, moving=True, ready=frozenset(), quorum=3, revision=0)
+        ledger.must_hold = list
+
+        async def until(holds: Any, seconds: float) -> None:
+            await waiting.until(lambda: holds(ledger), seconds)
+
+        node: Any = types.SimpleNamespace(ledger=ledger, name="a", sides={1: {0: None}}, until=until)
+        self.enterContext(contextlib.redirect_stderr(io.StringIO()))
+        self.enterContext(mock.patch.object(handover, "settle", settle))
+        moving = asyncio.create_task(handover.move(node))
+        begun = asyncio.get_running_loop().time()
+        while asyncio.get_running_loop().time() < begun + 2:
+            ledger.revision += 1
+            waiting.tell()
+            await asyncio.sleep(0.01)
+        moving.cancel()
+        self.assertIn(settled, range(2, 9))
+
+
+class Cancelled(unittest.IsolatedAsyncioTestCase):
+    async def test_the_own_shard_answers_to_its_end_though_nobody_waits(self) -> None:
+        """Its judge runs in a thread that cannot be ended, and has its memory until then."""
+        begun, goes_on, ended = asyncio.Event(), asyncio.Event(), asyncio.Event()
+
+        async def answered(request: bytes) -> list[bytes]:
+            begun.set()
+            await goes_on.wait()
+            ended.set()
+            return [answer(client.DONE)]
+
+        shard: Any = types.SimpleNamespace(number=0, ledger=types.SimpleNamespace(faults=1), answer=answered)
+        asking = asyncio.create_task(Own(shard).ask(client.write_frame(client.Read(bytes(32)))))
+        async with asyncio.timeout(30):
+            await begun.wait()
+            asking.cancel()
+            with self.assertRaises(asyncio.CancelledError):
+                await asking
+            goes_on.set()
+            await ended.wait()
+
+
+if __name__ == "__main__":
+    unittest.main()
