@@ -39,9 +39,9 @@ class Nodes(SlowCase):
             ended.extend([said] if is_useless(seat) else [])
             return said
 
-        async def stored(seat: peers.Seat, request: list[client.Data]) -> str:
+        async def stored(seat: peers.Seat, request: list[client.Data], registered: asyncio.Event) -> str:
             storing.update([asyncio.current_task()] if is_useless(seat) else [])  # it may wait for its turn there, too
-            return await store(seat, request)
+            return await store(seat, request, registered)
 
         async def waited(tasks: Any, **words: Any) -> Any:
             nonlocal graces

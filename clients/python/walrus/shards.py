@@ -6,12 +6,13 @@ import os
 import struct
 import time
 from collections.abc import Iterable, Sequence
-from typing import NamedTuple, Optional, Union
+from typing import Any, NamedTuple, Optional, Union
 
 from .baskets import OFFERED, PASSED, Basket, Sieve
+from .envelopes import HEAD, MARK
 from .kinds import DONE, KINDS, METADATA, READ, SECOND_METADATA, SYMBOL, Answer, Clash, Fault, in_words
 from .shapes import Shape, name_of
-from .streams import Sink, Source, Streams, take_envelope, write_in_slices
+from .streams import Sink, Source, Streams, take_envelope, write_parts
 from .wire import LARGE, Data
 
 SECONDS = 10.0  # a deadline for what is asked at once
@@ -94,7 +95,7 @@ class Shard(contextlib.AbstractAsyncContextManager["Shard"]):
         self.streams: Optional[Streams] = None
         self.took = USUAL  # seconds for an exchange, as the slow ones were of late
         self.late = False  # whether one is due
-        self.turn, self.exchanges = asyncio.Lock(), set[asyncio.Task[list[Reply]]]()
+        self.turn, self.exchanges = asyncio.Lock(), set[asyncio.Task[Any]]()
 
     async def open(self) -> Streams:
         raise NotImplementedError  # the streams, which are opened where they are not open yet
@@ -106,7 +107,7 @@ class Shard(contextlib.AbstractAsyncContextManager["Shard"]):
         task.add_done_callback(self.exchanged)
         return await asyncio.shield(task)
 
-    def exchanged(self, task: "asyncio.Task[list[Reply]]") -> None:
+    def exchanged(self, task: "asyncio.Task[Any]") -> None:
         self.exchanges.discard(task)
         if not task.cancelled():
             task.exception()  # which who waits for the replies hears, if anybody does
@@ -127,9 +128,13 @@ class Shard(contextlib.AbstractAsyncContextManager["Shard"]):
                 raise ConnectionError(self.fault) from None
 
     async def send(self, writer: Sink, requests: Sequence[Request]) -> None:
+        """Sends requests one behind the other, in few writes."""
+        parts = list[Data]()
+        for request in requests:
+            payload = request if isinstance(request, list) else [request]
+            parts += [HEAD.pack(MARK, self.number, sum(map(len, payload))), *payload]
         with contextlib.suppress(OSError):  # what ended is told by what is heard
-            for request in requests:
-                await write_in_slices(writer, request if isinstance(request, list) else [request], self.number)
+            await write_parts(writer, parts)
 
     async def hear(self, reader: Source, requests: Sequence[Request]) -> list[Reply]:
         replies: list[Reply] = []

@@ -129,7 +129,9 @@ class Network(View):
             def is_over(ledger: Ledger, epoch: int = epoch) -> bool:
                 return bool(ledger.certificate(identifier)) or ledger.writing_epoch != epoch
 
-            words = await self.both(self.registered(identifier, until), self.put_all(encoded, seats, is_over))
+            done = asyncio.Event()
+            storing = self.put_all(encoded, seats, is_over, done)
+            words = await self.both(self.registered(identifier, until, done), storing)
             said = {number: text for number, text in words.items() if text}
             pause = 2**attempt / 2 if len(seats) - len(said) < self.ledger.quorum else 10
             await self.until(is_over, pause)
@@ -137,11 +139,12 @@ class Network(View):
                 return Stored(identifier, *found, self.ledger.blobs[identifier].until)
         raise self.failed(f"{identifier.hex()} is not certified", said, begun)
 
-    async def registered(self, identifier: bytes, until: int) -> None:
+    async def registered(self, identifier: bytes, until: int, done: asyncio.Event) -> None:
         """Registers a blob, if it is not for as long."""
         blob = self.ledger.blobs.get(identifier)
         if blob is None or blob.until < until:
             await self.register(identifier, until)
+        done.set()
 
     @staticmethod
     async def both(first: Coroutine[Any, Any, None], second: Coroutine[Any, Any, Result]) -> Result:
@@ -155,7 +158,11 @@ class Network(View):
             await asyncio.gather(task, return_exceptions=True)
 
     async def put_all(
-        self, encoded: client.Encoded, seats: Sequence[Seat], is_over: Callable[[Ledger], bool]
+        self,
+        encoded: client.Encoded,
+        seats: Sequence[Seat],
+        is_over: Callable[[Ledger], bool],
+        registered: asyncio.Event,
     ) -> dict[int, str]:
         """Stores a blob at these shards until all have answered, or it is over and those that were not late before had
         as long again as the others took; what each of them said that would not do. Who is late goes on alone."""
@@ -174,7 +181,7 @@ class Network(View):
             if self.behind[name] and self.behind[name] + size > BEHIND:
                 said |= {seat.number: "it is behind with what was stored before" for seat in own}
             else:
-                tasks[name] = asyncio.create_task(self.put_at(own, encoded), name=encoded.identifier.hex())
+                tasks[name] = asyncio.create_task(self.put_at(own, encoded, registered), name=encoded.identifier.hex())
                 tasks[name].add_done_callback(answered)
         pending |= {*tasks.values()}
         try:
@@ -192,12 +199,12 @@ class Network(View):
                 task.cancel()
             raise
 
-    async def put_at(self, seats: Sequence[Seat], encoded: client.Encoded) -> dict[int, str]:
+    async def put_at(self, seats: Sequence[Seat], encoded: client.Encoded, registered: asyncio.Event) -> dict[int, str]:
         """Stores a blob at the shards of one node; what of it would not do, by shard."""
         name, said = seats[0].name, dict[int, str]()
         await self.until(lambda it: name in it.addresses, LATE)  # it has perhaps just come
         for seat in seats:
-            said[seat.number] = await seat.store(request_of(encoded, seat.number))
+            said[seat.number] = await seat.store(request_of(encoded, seat.number), registered)
         return said
 
     def leave_behind(self, name: str, task: "asyncio.Task[dict[int, str]]", size: int) -> None:

@@ -3,12 +3,13 @@ import asyncio
 import concurrent.futures
 import contextlib
 import functools
+import itertools
 import json
 import pathlib
 import socket
 import ssl
 import time
-from typing import Any, Sequence
+from typing import Any, Optional, Sequence
 
 from .. import client
 from ..wire import Wire, connect
@@ -17,6 +18,7 @@ from .limits import read_address
 
 LOOKUPS = 32  # names that are looked up at once, one of a node
 LANES, LARGE = 8, 4_194_304  # exchanges with a shard at once; bytes of a large one
+SMALL, TOGETHER, MANY = 32_768, 262_144, 64  # bytes of a small one; of those that go together, and how many these are
 FIGURES, SCRUB = b"\x60", b"\x61"  # requests of an operator: a node's figures, and these once it begins a scrub
 
 
@@ -28,6 +30,9 @@ class Seat(client.Shard):
         super().__init__(number, faults, peers.seconds)
         self.peers, self.name, self.turns = peers, name, asyncio.Semaphore(LANES)
         self.large = asyncio.Semaphore(2)  # of large requests a node keeps no more
+        self.small = asyncio.Semaphore(1)  # and of small ones one exchange is under way
+        self.waiting = dict["asyncio.Future[str]", list[client.Data]]()  # small ones that go together, and what is told
+        self.going: Optional["asyncio.Task[None]"] = None  # who sends these
         self.idle = list[Wire]()
 
     async def connection(self) -> Wire:
@@ -48,7 +53,7 @@ class Seat(client.Shard):
         task.add_done_callback(self.exchanged)
         return await asyncio.shield(task)
 
-    def exchanged(self, task: "asyncio.Task[list[client.Reply]]") -> None:
+    def exchanged(self, task: "asyncio.Task[Any]") -> None:
         super().exchanged(task)
         self.turns.release()
 
@@ -75,19 +80,65 @@ class Seat(client.Shard):
         self.took, self.late = max(time.monotonic() - begun, 0.9 * self.took), False
         return replies
 
-    async def store(self, request: list[client.Data]) -> str:
+    async def store(self, request: list[client.Data], registered: asyncio.Event) -> str:
         """Has a blob stored that comes whole; what the shard says where it is not. Who waits no more for it lets go of
-        what is sent."""
+        what is sent. A small one goes at once if none is under way, and else with others: not before it is registered,
+        as a node would have these wait for that."""
+        size = sum(map(len, request))
+        if size <= SMALL and (self.small.locked() or self.waiting):
+            await registered.wait()
+            return await self.join(request)
+        async with contextlib.AsyncExitStack() as stack:
+            if size <= SMALL or size >= LARGE:
+                await stack.enter_async_context(self.small if size <= SMALL else self.large)
+            await stack.enter_async_context(self.turns)
+            [said] = await self.put([request])
+        return said
+
+    async def put(self, requests: Sequence[list[client.Data]]) -> list[str]:
+        """Has blobs stored in one exchange; what the shard says to each where it is not stored."""
         try:
-            async with contextlib.AsyncExitStack() as stack:
-                if sum(map(len, request)) >= LARGE:
-                    await stack.enter_async_context(self.large)
-                await stack.enter_async_context(self.turns)
-                [reply] = await self.exchange([request])
+            ends = [reply.end for reply in await self.exchange(requests)]
         except ConnectionError as error:
-            return str(error)
-        done = isinstance(reply.end, client.Answer) and reply.end.code == client.DONE
-        return "" if done else f"store at shard {self.number}: {client.in_words(reply.end)}"
+            return [str(error)] * len(requests)
+        ends += ends[-1:] * (len(requests) - len(ends))  # behind a clash it says nothing more
+        done = [isinstance(end, client.Answer) and end.code == client.DONE for end in ends]
+        said = f"store at shard {self.number}"
+        return ["" if fine else f"{said}: {client.in_words(end)}" for fine, end in zip(done, ends)]
+
+    async def join(self, request: list[client.Data]) -> str:
+        """Has a small blob stored together with all that wait as it does; what the shard says where it is not."""
+        told: "asyncio.Future[str]" = asyncio.get_running_loop().create_future()
+        self.waiting[told] = request
+        if self.going is None or self.going.done():
+            self.going = asyncio.create_task(self.send_together())
+            self.exchanges.add(self.going)
+            self.going.add_done_callback(super().exchanged)
+        try:
+            return await told
+        finally:
+            self.waiting.pop(told, None)
+
+    async def send_together(self) -> None:
+        """Sends small requests that wait, in one exchange all that fit, as long as there are any."""
+        taken = dict["asyncio.Future[str]", list[client.Data]]()
+        try:
+            while self.waiting:
+                async with self.small, self.turns:
+                    if taken := self.take():
+                        for told, text in zip(taken, await self.put([*taken.values()])):
+                            if not told.done():
+                                told.set_result(text)
+        finally:
+            for told in (*taken, *self.waiting):  # where this is told to end
+                told.cancel()
+
+    def take(self) -> dict["asyncio.Future[str]", list[client.Data]]:
+        """Those that wait first, as many as go together. They are copied, as who gives up lets go of the blob."""
+        first = [*itertools.islice(self.waiting, MANY)]
+        sizes = itertools.accumulate(sum(map(len, self.waiting[it])) for it in first)
+        count = sum(size <= TOGETHER for size in sizes)
+        return {it: [b"".join(self.waiting.pop(it))] for it in first[:count]}
 
     async def drop(self) -> str:
         for wire in self.idle:
