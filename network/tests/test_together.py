@@ -2,7 +2,7 @@
 import asyncio
 import types
 import unittest
-from typing import Any, Optional, Sequence
+from typing import Any, Callable, Optional, Sequence
 from unittest import mock
 
 import harness  # noqa: F401  # which says where walrus is
@@ -23,17 +23,25 @@ class Storing(unittest.IsolatedAsyncioTestCase):
         self.seat, self.registered = Seat(peers, "node-2", 2, 1), asyncio.Event()
         self.registered.set()
         self.sent = list[list[bytes]]()
+        self.heard = list[Callable[[client.Reply], object]]()
         self.due = list["asyncio.Future[list[client.Reply]]"]()
         self.enterContext(mock.patch.object(self.seat, "exchange", self.exchange))
 
-    async def exchange(self, requests: Sequence[list[client.Data]]) -> list[client.Reply]:
+    async def exchange(
+        self, requests: Sequence[list[client.Data]], heard: Callable[[client.Reply], object]
+    ) -> list[client.Reply]:
         self.sent.append([b"".join(request) for request in requests])
+        self.heard.append(heard)
         self.due.append(asyncio.get_running_loop().create_future())
         return await self.due[-1]
 
-    def answer(self, *ends: object) -> None:
-        """Ends the exchange that is under way for longest."""
-        self.due.pop(0).set_result([client.Reply({}, end) for end in ends])  # type: ignore[arg-type]
+    def answer(self, *ends: Any, fault: Optional[Exception] = None) -> None:
+        """Ends the exchange that is under way for longest, after these replies."""
+        heard, due = self.heard.pop(0), self.due.pop(0)
+        replies = [client.Reply({}, end) for end in ends]
+        for reply in replies:
+            heard(reply)
+        due.set_exception(fault) if fault else due.set_result(replies)
 
     async def store(self, *requests: bytes, registered: Optional[asyncio.Event] = None) -> "list[asyncio.Task[str]]":
         """Has these blobs stored as far as that goes."""
@@ -90,17 +98,25 @@ class Storing(unittest.IsolatedAsyncioTestCase):
         self.answer(DONE, FULL)
         self.assertEqual(await last, UNVERIFIED)
 
-    async def test_a_fault_reaches_each_and_the_next_go_on(self) -> None:
+    async def test_a_fault_reaches_each_that_has_no_reply_and_the_next_go_on(self) -> None:
         await self.store(b"first")
-        tasks = await self.store(b"one", b"two")
+        tasks = await self.store(b"one", b"two", b"three")
         self.answer(DONE)
         await self.turns()
-        next_ones = await self.store(b"three", b"four")
-        self.due.pop(0).set_exception(ConnectionError("it ended"))
-        self.assertEqual(await asyncio.gather(*tasks), ["it ended"] * 2)
+        next_ones = await self.store(b"four", b"five")
+        self.answer(DONE, fault=ConnectionError("it ended"))
+        self.assertEqual(await asyncio.gather(*tasks), ["", "it ended", "it ended"])
         await self.turns()
         self.answer(DONE, DONE)
         self.assertEqual(await asyncio.gather(*next_ones), ["", ""])
+
+    async def test_each_hears_its_reply_as_soon_as_it_came(self) -> None:
+        await self.store(b"first")
+        one, two = await self.store(b"one", b"two")
+        self.answer(DONE)
+        await self.turns()
+        self.heard[0](client.Reply({}, DONE))
+        self.assertEqual((await one, two.done()), ("", False))
 
     async def test_behind_a_clash_it_is_told_to_each(self) -> None:
         await self.store(b"first")
@@ -108,9 +124,9 @@ class Storing(unittest.IsolatedAsyncioTestCase):
         self.answer(DONE)
         await self.turns()
         self.answer(DONE, client.Clash(b"\x31\x01a\x01b"))
-        said = await asyncio.gather(*tasks)
-        self.assertEqual((said[0], said[1]), ("", said[2]))
-        self.assertIn("clash", said[1])
+        first, clash, last = await asyncio.gather(*tasks)
+        self.assertEqual((first, last), ("", "it has clashed"))
+        self.assertIn("clash", clash)
 
     async def test_larger_ones_go_alone_and_at_once(self) -> None:
         await self.store(b"first")

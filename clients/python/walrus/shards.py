@@ -5,7 +5,7 @@ import contextlib
 import os
 import struct
 import time
-from collections.abc import Iterable, Sequence
+from collections.abc import Callable, Iterable, Sequence
 from typing import Any, NamedTuple, Optional, Union
 
 from .baskets import OFFERED, PASSED, Basket, Sieve
@@ -26,6 +26,7 @@ USUAL = 0.2  # seconds for which a shard is taken to need first
 Request = Union[bytes, list[Data]]  # a payload, which may come in parts
 Step = tuple[str, bytes, Sequence[int]]  # a request in words and as a payload, and the codes of answers that will do
 Reply = NamedTuple("Reply", [("kept", dict[int, bytes]), ("end", Union[Answer, Clash])])  # what is of use, by its kind
+Heard = Optional[Callable[[Reply], object]]  # what each reply is told to
 
 
 class Asked(bytes):
@@ -136,10 +137,13 @@ class Shard(contextlib.AbstractAsyncContextManager["Shard"]):
         with contextlib.suppress(OSError):  # what ended is told by what is heard
             await write_parts(writer, parts)
 
-    async def hear(self, reader: Source, requests: Sequence[Request]) -> list[Reply]:
+    async def hear(self, reader: Source, requests: Sequence[Request], heard: Heard = None) -> list[Reply]:
+        """The replies up to a clash, each of which is told as soon as it came."""
         replies: list[Reply] = []
         while len(replies) < len(requests) and not (replies and isinstance(replies[-1].end, Clash)):
             replies.append(await self.hear_one(reader, requests[len(replies)]))
+            if heard:
+                heard(replies[-1])
         return replies
 
     async def hear_one(self, reader: Source, request: Request) -> Reply:
