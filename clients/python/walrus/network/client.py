@@ -167,14 +167,6 @@ class Network(View):
         """Stores a blob at these shards until all have answered, or it is over and those that were not late before had
         as long again as the others took; what each of them said that would not do. Who is late goes on alone."""
         tasks, said, begun = dict[str, "asyncio.Task[dict[int, str]]"](), dict[int, str](), time.monotonic()
-
-        pending = set["asyncio.Task[dict[int, str]]"]()
-
-        def answered(task: "asyncio.Task[dict[int, str]]") -> None:
-            pending.discard(task)
-            if not pending:
-                self.waiting.tell()
-
         size = sum(map(len, (encoded.metadata, *encoded.slivers[0])))
         for name in dict.fromkeys(seat.name for seat in seats):
             own = [seat for seat in seats if seat.name == name]
@@ -182,11 +174,13 @@ class Network(View):
                 said |= {seat.number: "it is behind with what was stored before" for seat in own}
             else:
                 tasks[name] = asyncio.create_task(self.put_at(own, encoded, registered), name=encoded.identifier.hex())
-                tasks[name].add_done_callback(answered)
-        pending |= {*tasks.values()}
+        over = asyncio.create_task(self.until(is_over, None))
+        ends: list["asyncio.Future[Any]"] = [over, asyncio.gather(*tasks.values(), return_exceptions=True)]
         try:
-            await self.until(lambda it: not pending or is_over(it), None)
-            if prompt := [task for name, task in tasks.items() if task in pending and not self.behind[name]]:
+            await asyncio.wait(ends, return_when=asyncio.FIRST_COMPLETED)
+            if over.done():
+                over.result()  # which raises where the ledger is not followed
+            if prompt := [task for name, task in tasks.items() if not (task.done() or self.behind[name])]:
                 await asyncio.wait(prompt, timeout=max(GRACE, time.monotonic() - begun))
             for name, task in tasks.items():
                 if task.done():
@@ -198,6 +192,8 @@ class Network(View):
             for task in tasks.values():
                 task.cancel()
             raise
+        finally:
+            over.cancel()
 
     async def put_at(self, seats: Sequence[Seat], encoded: client.Encoded, registered: asyncio.Event) -> dict[int, str]:
         """Stores a blob at the shards of one node; what of it would not do, by shard."""
