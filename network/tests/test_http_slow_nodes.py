@@ -32,16 +32,16 @@ class Nodes(SlowCase):
         def is_useless(seat: peers.Seat) -> bool:
             return seat.name == useless and seat.peers is self.network.peers
 
-        async def watched(seat: peers.Seat, requests: Sequence[client.Request]) -> list[client.Reply]:
+        async def watched(seat: peers.Seat, requests: Sequence[client.Request], *heard: Any) -> list[client.Reply]:
             nonlocal reads
             reads += is_useless(seat) and requests[0][:1] == bytes([client.READ])
-            said = await exchange(seat, requests)
+            said = await exchange(seat, requests, *heard)
             ended.extend([said] if is_useless(seat) else [])
             return said
 
-        async def stored(seat: peers.Seat, request: list[client.Data]) -> str:
+        async def stored(seat: peers.Seat, request: list[client.Data], registered: asyncio.Event) -> str:
             storing.update([asyncio.current_task()] if is_useless(seat) else [])  # it may wait for its turn there, too
-            return await store(seat, request)
+            return await store(seat, request, registered)
 
         async def waited(tasks: Any, **words: Any) -> Any:
             nonlocal graces
@@ -82,10 +82,10 @@ class Nodes(SlowCase):
         self.addCleanup(lambda: hung.returncode is None and hung.send_signal(signal.SIGCONT))
         hung.send_signal(signal.SIGSTOP)
 
-        async def counted(seat: peers.Seat, requests: Sequence[client.Request]) -> list[client.Reply]:
+        async def counted(seat: peers.Seat, requests: Sequence[client.Request], *heard: Any) -> list[client.Reply]:
             reads = requests[0][:1] == bytes([client.READ])  # and is no piece that a late node stores still
             asked[seat.name] += reads and seat.peers is self.network.peers  # and not by who asks whether nodes answer
-            return await exchange(seat, requests)
+            return await exchange(seat, requests, *heard)
 
         self.enterContext(mock.patch.object(peers.Seat, "exchange", counted))
         self.gateway.reader.cache.entries.clear()

@@ -42,6 +42,7 @@ class Storing(unittest.IsolatedAsyncioTestCase):
         self.wires = list[Wire]()
         peers: Any = types.SimpleNamespace(seconds=30)
         self.seat = Seat(peers, "node-2", 2, 1)
+        self.registered = asyncio.Event()
         self.enterContext(mock.patch.object(self.seat, "connection", self.connection))
 
     async def connection(self) -> Wire:
@@ -53,7 +54,7 @@ class Storing(unittest.IsolatedAsyncioTestCase):
             await asyncio.sleep(0)
 
     async def test_who_waits_no_more_lets_go_of_what_is_sent(self) -> None:
-        storing = asyncio.create_task(self.seat.store([b"a blob"]))
+        storing = asyncio.create_task(self.seat.store([b"a blob"], self.registered))
         await self.turns()
         [wire] = self.wires
         self.assertGreater(wire.size, 6)
@@ -64,10 +65,10 @@ class Storing(unittest.IsolatedAsyncioTestCase):
         self.assertEqual((self.seat.idle, self.seat.exchanges), ([], set()))
 
     async def test_a_node_is_sent_two_large_blobs_at_once_and_small_ones_beside(self) -> None:
-        large = [asyncio.create_task(self.seat.store([bytes(LARGE)])) for _ in range(3)]
+        large = [asyncio.create_task(self.seat.store([bytes(LARGE)], self.registered)) for _ in range(3)]
         await self.turns()
         self.assertEqual(len(self.wires), 2)
-        small = asyncio.create_task(self.seat.store([b"small"]))
+        small = asyncio.create_task(self.seat.store([b"small"], self.registered))
         await self.turns()
         self.assertEqual(len(self.wires), 3)
         for wire in self.wires[:1] + self.wires[2:]:
@@ -110,9 +111,9 @@ class Storing(unittest.IsolatedAsyncioTestCase):
     async def test_what_a_shard_says_is_told(self) -> None:
         with mock.patch.object(self.seat, "connection", mock.AsyncMock(return_value=(wire := Wire(kinds.UNVERIFIED)))):
             wire.takes.set()
-            self.assertEqual(await self.seat.store([b"a blob"]), "store at shard 2: unverified")
+            self.assertEqual(await self.seat.store([b"a blob"], self.registered), "store at shard 2: unverified")
         with mock.patch.object(self.seat, "connection", side_effect=ConnectionRefusedError(111, "refused")):
-            self.assertEqual(await self.seat.store([b"a blob"]), "connection refused")
+            self.assertEqual(await self.seat.store([b"a blob"], self.registered), "connection refused")
 
 
 class Addresses(unittest.IsolatedAsyncioTestCase):
@@ -153,7 +154,7 @@ class Threads(unittest.IsolatedAsyncioTestCase):
         [seat] = peers.seats(["node-2"], 1)
         said = "node-2.example cannot be looked up: can't start new thread"
         with mock.patch.object(peers.pool, "submit", side_effect=RuntimeError("can't start new thread")):
-            self.assertEqual(await seat.store([b"a blob"]), said)
+            self.assertEqual(await seat.store([b"a blob"], asyncio.Event()), said)
             with self.assertRaisesRegex(ConnectionError, said):
                 await peers.told("node-2", FIGURES)
 

@@ -148,7 +148,7 @@ class Storing(unittest.IsolatedAsyncioTestCase):
 
         self.network.until = until
 
-    async def put_at(self, seats: Any, encoded: client.Encoded) -> dict[int, str]:
+    async def put_at(self, seats: Any, encoded: client.Encoded, registered: asyncio.Event) -> dict[int, str]:
         name = seats[0].name
         try:
             said: str = await self.ends[name]
@@ -159,7 +159,7 @@ class Storing(unittest.IsolatedAsyncioTestCase):
         return {seats[0].number: said}
 
     async def put_all(self, is_over: Callable[[Ledger], bool] = lambda _: False) -> dict[int, str]:
-        return await Network.put_all(self.network, self.encoded, self.seats, is_over)
+        return await Network.put_all(self.network, self.encoded, self.seats, is_over, asyncio.Event())
 
     async def test_what_each_said_is_told(self) -> None:
         storing = asyncio.create_task(self.put_all())

@@ -5,22 +5,22 @@ Where there are more connections than may be, or more is kept, that client is cu
 import asyncio
 import collections
 import contextlib
-import dataclasses
 import functools
 import socket
 import ssl
 import sys
 import time
-from collections.abc import Awaitable, Callable, Sequence
+from collections.abc import Awaitable, Callable
 from typing import Any, NamedTuple, Optional
 
 from .client import HEAD, MARK, SLICE, Data, Fault, Shape, envelope, in_words, write_frame
-from .fairness import Fair, key_of
+from .connected import SMALL, Connection as Connection, Said as Said
+from .fairness import Fair
 from .frames import refuse
 from .streams import write_parts
 from .wire import Wire, accept, bound, filling, memory
 
-PIECE, AHEAD, QUIET = 65_536, 64, 60.0  # bytes of one client; replies that wait; seconds between two equal lines
+PIECE, QUIET = 65_536, 60.0  # bytes of one client; seconds between two equal lines
 LARGE_PAGE, HANDSHAKE = 2_097_152, 5.0  # bytes; seconds for TLS
 ASIDE = 256  # requests that wait for others without a turn
 MANY = 4  # who has more than one of so many parts of the connections has many
@@ -33,38 +33,6 @@ class Bounds(NamedTuple):
     seconds: float = 60.0
     idle: float = 60.0  # seconds without a request
     kept: int = 268_435_456  # bytes of requests and replies, for all clients together
-
-
-class Said(NamedTuple):
-    """A reply in parts; where it rests on what must come to a disk, whether that came there, and the reply where it did
-    not."""
-
-    parts: Sequence[Data]
-    written: Optional["asyncio.Future[bool]"] = None
-    lost: bytes = b""
-
-    @property
-    def size(self) -> int:
-        return sum(map(len, self.parts))
-
-
-@dataclasses.dataclass(eq=False)
-class Connection:
-    """A client: since when it is at what it does, whether a shard replied, what is kept for it, and replies to send."""
-
-    task: "asyncio.Task[None]"
-    address: tuple[Any, ...]
-    whom: str = dataclasses.field(init=False)  # from where it is
-    since: float = dataclasses.field(default_factory=time.monotonic)
-    had_reply: bool = False
-    kept: int = 0
-    replies: "asyncio.Queue[Optional[Said]]" = dataclasses.field(default_factory=lambda: asyncio.Queue(AHEAD))
-
-    def __post_init__(self) -> None:
-        self.whom = key_of(str(self.address[0]))
-
-    def __str__(self) -> str:
-        return ":".join(map(str, self.address[:2]))
 
 
 class Port:
@@ -288,12 +256,26 @@ class Port:
             self.keep(client, task.result().size - size)
 
     async def send(self, client: Connection, wire: Wire) -> None:
-        """Sends the replies, each once what it rests on is on the disk."""
+        """Sends the replies, each once what it rests on is on the disk; small ones that are due at once go together."""
+        due = list[Said]()
         while said := await client.replies.get():
-            written = said.written is None or await asyncio.shield(said.written)
-            async with asyncio.timeout(self.bounds.seconds):
-                await write_parts(wire, said.parts if written else [said.lost])
-            self.keep(client, -said.size)
-            client.since = time.monotonic()
-            client.replies.task_done()
+            if said.size > SMALL or not said.is_due:
+                await self.send_due(client, wire, due)
+            if said.written:
+                await asyncio.shield(said.written)
+            due.append(said)
+            if said.size > SMALL or client.replies.empty():
+                await self.send_due(client, wire, due)
             del said  # which is not in memory while the client is idle
+        await self.send_due(client, wire, due)
+
+    async def send_due(self, client: Connection, wire: Wire, due: list[Said]) -> None:
+        """Sends replies together, of which nothing is kept then."""
+        if due:
+            async with asyncio.timeout(self.bounds.seconds):
+                await write_parts(wire, [part for said in due for part in said.known])
+            for said in due:
+                self.keep(client, -said.size)
+                client.replies.task_done()
+            client.since = time.monotonic()
+            due.clear()

@@ -5,13 +5,14 @@ import contextlib
 import os
 import struct
 import time
-from collections.abc import Iterable, Sequence
-from typing import NamedTuple, Optional, Union
+from collections.abc import Callable, Iterable, Sequence
+from typing import Any, NamedTuple, Optional, Union
 
 from .baskets import OFFERED, PASSED, Basket, Sieve
+from .envelopes import HEAD, MARK
 from .kinds import DONE, KINDS, METADATA, READ, SECOND_METADATA, SYMBOL, Answer, Clash, Fault, in_words
 from .shapes import Shape, name_of
-from .streams import Sink, Source, Streams, take_envelope, write_in_slices
+from .streams import Sink, Source, Streams, take_envelope, write_parts
 from .wire import LARGE, Data
 
 SECONDS = 10.0  # a deadline for what is asked at once
@@ -25,6 +26,7 @@ USUAL = 0.2  # seconds for which a shard is taken to need first
 Request = Union[bytes, list[Data]]  # a payload, which may come in parts
 Step = tuple[str, bytes, Sequence[int]]  # a request in words and as a payload, and the codes of answers that will do
 Reply = NamedTuple("Reply", [("kept", dict[int, bytes]), ("end", Union[Answer, Clash])])  # what is of use, by its kind
+Heard = Optional[Callable[[Reply], object]]  # what each reply is told to
 
 
 class Asked(bytes):
@@ -94,7 +96,7 @@ class Shard(contextlib.AbstractAsyncContextManager["Shard"]):
         self.streams: Optional[Streams] = None
         self.took = USUAL  # seconds for an exchange, as the slow ones were of late
         self.late = False  # whether one is due
-        self.turn, self.exchanges = asyncio.Lock(), set[asyncio.Task[list[Reply]]]()
+        self.turn, self.exchanges = asyncio.Lock(), set[asyncio.Task[Any]]()
 
     async def open(self) -> Streams:
         raise NotImplementedError  # the streams, which are opened where they are not open yet
@@ -106,7 +108,7 @@ class Shard(contextlib.AbstractAsyncContextManager["Shard"]):
         task.add_done_callback(self.exchanged)
         return await asyncio.shield(task)
 
-    def exchanged(self, task: "asyncio.Task[list[Reply]]") -> None:
+    def exchanged(self, task: "asyncio.Task[Any]") -> None:
         self.exchanges.discard(task)
         if not task.cancelled():
             task.exception()  # which who waits for the replies hears, if anybody does
@@ -127,14 +129,21 @@ class Shard(contextlib.AbstractAsyncContextManager["Shard"]):
                 raise ConnectionError(self.fault) from None
 
     async def send(self, writer: Sink, requests: Sequence[Request]) -> None:
+        """Sends requests one behind the other, in few writes."""
+        parts = list[Data]()
+        for request in requests:
+            payload = request if isinstance(request, list) else [request]
+            parts += [HEAD.pack(MARK, self.number, sum(map(len, payload))), *payload]
         with contextlib.suppress(OSError):  # what ended is told by what is heard
-            for request in requests:
-                await write_in_slices(writer, request if isinstance(request, list) else [request], self.number)
+            await write_parts(writer, parts)
 
-    async def hear(self, reader: Source, requests: Sequence[Request]) -> list[Reply]:
+    async def hear(self, reader: Source, requests: Sequence[Request], heard: Heard = None) -> list[Reply]:
+        """The replies up to a clash, each of which is told as soon as it came."""
         replies: list[Reply] = []
         while len(replies) < len(requests) and not (replies and isinstance(replies[-1].end, Clash)):
             replies.append(await self.hear_one(reader, requests[len(replies)]))
+            if heard:
+                heard(replies[-1])
         return replies
 
     async def hear_one(self, reader: Source, request: Request) -> Reply:

@@ -71,20 +71,15 @@ async def take_envelope(stream: Source, longest: int, basket: Optional[Basket] =
     return sender, await stream.readexactly(size)
 
 
-async def write_in_slices(stream: Sink, parts: Sequence[Data], sender: int) -> None:
-    """Writes an envelope around a payload that comes in parts, and no more ahead than a slice of it."""
-    await write_parts(stream, [HEAD.pack(MARK, sender, sum(map(len, parts))), *parts])
-
-
 async def write_parts(stream: Sink, parts: Sequence[Data]) -> None:
     """Writes parts one behind the other, and no more ahead than a slice."""
-    ahead = b""
+    ahead = bytearray()
     for part in map(memoryview, parts):
         if len(ahead) + len(part) < SLICE:
             ahead += part
             continue
         stream.write(ahead)
-        ahead = b""
+        ahead = bytearray()
         for start in range(0, len(part), SLICE):
             stream.write(part[start : start + SLICE])  # noqa: E203
             await stream.drain()

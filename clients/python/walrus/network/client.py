@@ -129,7 +129,9 @@ class Network(View):
             def is_over(ledger: Ledger, epoch: int = epoch) -> bool:
                 return bool(ledger.certificate(identifier)) or ledger.writing_epoch != epoch
 
-            words = await self.both(self.registered(identifier, until), self.put_all(encoded, seats, is_over))
+            done = asyncio.Event()
+            storing = self.put_all(encoded, seats, is_over, done)
+            words = await self.both(self.registered(identifier, until, done), storing)
             said = {number: text for number, text in words.items() if text}
             pause = 2**attempt / 2 if len(seats) - len(said) < self.ledger.quorum else 10
             await self.until(is_over, pause)
@@ -137,11 +139,12 @@ class Network(View):
                 return Stored(identifier, *found, self.ledger.blobs[identifier].until)
         raise self.failed(f"{identifier.hex()} is not certified", said, begun)
 
-    async def registered(self, identifier: bytes, until: int) -> None:
+    async def registered(self, identifier: bytes, until: int, done: asyncio.Event) -> None:
         """Registers a blob, if it is not for as long."""
         blob = self.ledger.blobs.get(identifier)
         if blob is None or blob.until < until:
             await self.register(identifier, until)
+        done.set()
 
     @staticmethod
     async def both(first: Coroutine[Any, Any, None], second: Coroutine[Any, Any, Result]) -> Result:
@@ -155,31 +158,29 @@ class Network(View):
             await asyncio.gather(task, return_exceptions=True)
 
     async def put_all(
-        self, encoded: client.Encoded, seats: Sequence[Seat], is_over: Callable[[Ledger], bool]
+        self,
+        encoded: client.Encoded,
+        seats: Sequence[Seat],
+        is_over: Callable[[Ledger], bool],
+        registered: asyncio.Event,
     ) -> dict[int, str]:
         """Stores a blob at these shards until all have answered, or it is over and those that were not late before had
         as long again as the others took; what each of them said that would not do. Who is late goes on alone."""
         tasks, said, begun = dict[str, "asyncio.Task[dict[int, str]]"](), dict[int, str](), time.monotonic()
-
-        pending = set["asyncio.Task[dict[int, str]]"]()
-
-        def answered(task: "asyncio.Task[dict[int, str]]") -> None:
-            pending.discard(task)
-            if not pending:
-                self.waiting.tell()
-
         size = sum(map(len, (encoded.metadata, *encoded.slivers[0])))
         for name in dict.fromkeys(seat.name for seat in seats):
             own = [seat for seat in seats if seat.name == name]
             if self.behind[name] and self.behind[name] + size > BEHIND:
                 said |= {seat.number: "it is behind with what was stored before" for seat in own}
             else:
-                tasks[name] = asyncio.create_task(self.put_at(own, encoded), name=encoded.identifier.hex())
-                tasks[name].add_done_callback(answered)
-        pending |= {*tasks.values()}
+                tasks[name] = asyncio.create_task(self.put_at(own, encoded, registered), name=encoded.identifier.hex())
+        over = asyncio.create_task(self.until(is_over, None))
+        ends: list["asyncio.Future[Any]"] = [over, asyncio.gather(*tasks.values(), return_exceptions=True)]
         try:
-            await self.until(lambda it: not pending or is_over(it), None)
-            if prompt := [task for name, task in tasks.items() if task in pending and not self.behind[name]]:
+            await asyncio.wait(ends, return_when=asyncio.FIRST_COMPLETED)
+            if over.done():
+                over.result()  # which raises where the ledger is not followed
+            if prompt := [task for name, task in tasks.items() if not (task.done() or self.behind[name])]:
                 await asyncio.wait(prompt, timeout=max(GRACE, time.monotonic() - begun))
             for name, task in tasks.items():
                 if task.done():
@@ -191,13 +192,15 @@ class Network(View):
             for task in tasks.values():
                 task.cancel()
             raise
+        finally:
+            over.cancel()
 
-    async def put_at(self, seats: Sequence[Seat], encoded: client.Encoded) -> dict[int, str]:
+    async def put_at(self, seats: Sequence[Seat], encoded: client.Encoded, registered: asyncio.Event) -> dict[int, str]:
         """Stores a blob at the shards of one node; what of it would not do, by shard."""
         name, said = seats[0].name, dict[int, str]()
         await self.until(lambda it: name in it.addresses, LATE)  # it has perhaps just come
         for seat in seats:
-            said[seat.number] = await seat.store(request_of(encoded, seat.number))
+            said[seat.number] = await seat.store(request_of(encoded, seat.number), registered)
         return said
 
     def leave_behind(self, name: str, task: "asyncio.Task[dict[int, str]]", size: int) -> None:

@@ -3,14 +3,16 @@ import asyncio
 import concurrent.futures
 import contextlib
 import functools
+import itertools
 import json
 import pathlib
 import socket
 import ssl
 import time
-from typing import Any, Sequence
+from typing import Any, Optional, Sequence
 
 from .. import client
+from ..shards import Heard
 from ..wire import Wire, connect
 from .ledger import Ledger
 from .limits import read_address
@@ -18,6 +20,8 @@ from .limits import read_address
 LOOKUPS = 32  # names that are looked up at once, one of a node
 FIRST = 2.0  # seconds in which an address of a node is to take a connection, before another one is tried
 LANES, LARGE = 8, 4_194_304  # exchanges with a shard at once; bytes of a large one
+SMALL, TOGETHER, MANY = 32_768, 262_144, 64  # bytes of a small one; of those that go together, and how many these are
+Storing = dict["asyncio.Future[str]", list[client.Data]]  # requests to store blobs, by who waits for what is said
 FIGURES, SCRUB = b"\x60", b"\x61"  # requests of an operator: a node's figures, and these once it begins a scrub
 
 
@@ -29,6 +33,9 @@ class Seat(client.Shard):
         super().__init__(number, faults, peers.seconds)
         self.peers, self.name, self.turns = peers, name, asyncio.Semaphore(LANES)
         self.large = asyncio.Semaphore(2)  # of large requests a node keeps no more
+        self.small = asyncio.Semaphore(1)  # and of small ones one exchange is under way
+        self.waiting: Storing = {}  # small ones that go together
+        self.going: Optional["asyncio.Task[None]"] = None  # who sends these
         self.idle = list[Wire]()
 
     async def connection(self) -> Wire:
@@ -49,11 +56,12 @@ class Seat(client.Shard):
         task.add_done_callback(self.exchanged)
         return await asyncio.shield(task)
 
-    def exchanged(self, task: "asyncio.Task[list[client.Reply]]") -> None:
+    def exchanged(self, task: "asyncio.Task[Any]") -> None:
         super().exchanged(task)
         self.turns.release()
 
-    async def exchange(self, requests: Sequence[client.Request]) -> list[client.Reply]:
+    async def exchange(self, requests: Sequence[client.Request], heard: Heard = None) -> list[client.Reply]:
+        """The replies to requests over a connection that nobody else uses, each of which is told as soon as it came."""
         if self.fault:
             raise ConnectionError(self.fault)
         begun, wire = time.monotonic(), None
@@ -62,9 +70,9 @@ class Seat(client.Shard):
                 wire = await self.connection()
                 if len(requests) == 1:  # it is answered once all of it came
                     await self.send(wire, requests)
-                    replies = await self.hear(wire, requests)
+                    replies = await self.hear(wire, requests, heard)
                 else:
-                    replies, _ = await asyncio.gather(self.hear(wire, requests), self.send(wire, requests))
+                    replies, _ = await asyncio.gather(self.hear(wire, requests, heard), self.send(wire, requests))
         except (EOFError, OSError, ValueError) as error:
             await self.drop()  # what is older may be as dead: a firewall that forgets one connection forgets all
             raise ConnectionError(client.fault_in_words(error, self.seconds)) from None
@@ -77,19 +85,71 @@ class Seat(client.Shard):
         self.took, self.late = max(time.monotonic() - begun, 0.9 * self.took), False
         return replies
 
-    async def store(self, request: list[client.Data]) -> str:
+    async def store(self, request: list[client.Data], registered: asyncio.Event) -> str:
         """Has a blob stored that comes whole; what the shard says where it is not. Who waits no more for it lets go of
-        what is sent."""
+        what is sent. A small one goes at once if none is under way, and else with others: not before it is registered,
+        as a node would have these wait for that."""
+        told: "asyncio.Future[str]" = asyncio.get_running_loop().create_future()
+        size = sum(map(len, request))
+        if size <= SMALL and (self.small.locked() or self.waiting):
+            await registered.wait()
+            return await self.join(told, request)
+        async with contextlib.AsyncExitStack() as stack:
+            if size <= SMALL or size >= LARGE:
+                await stack.enter_async_context(self.small if size <= SMALL else self.large)
+            await stack.enter_async_context(self.turns)
+            await self.put({told: request})
+        return told.result()
+
+    async def join(self, told: "asyncio.Future[str]", request: list[client.Data]) -> str:
+        """Has a small blob stored together with all that wait as it does; what the shard says where it is not."""
+        self.waiting[told] = request
+        if self.going is None or self.going.done():
+            self.going = asyncio.create_task(self.send_together())
+            self.exchanges.add(self.going)
+            self.going.add_done_callback(super().exchanged)
         try:
-            async with contextlib.AsyncExitStack() as stack:
-                if sum(map(len, request)) >= LARGE:
-                    await stack.enter_async_context(self.large)
-                await stack.enter_async_context(self.turns)
-                [reply] = await self.exchange([request])
+            return await told
+        finally:
+            self.waiting.pop(told, None)
+
+    async def send_together(self) -> None:
+        """Sends small requests that wait, in one exchange all that fit, as long as there are any."""
+        taken: Storing = {}
+        try:
+            while self.waiting:
+                async with self.small, self.turns:
+                    if taken := self.take():
+                        await self.put(taken)
+        finally:
+            for told in (*taken, *self.waiting):  # where this is told to end
+                told.cancel()
+
+    def take(self) -> Storing:
+        """Those that wait first, as many as go together. They are copied, as who gives up lets go of the blob."""
+        first = [*itertools.islice(self.waiting, MANY)]
+        sizes = itertools.accumulate(sum(map(len, self.waiting[it])) for it in first)
+        count = sum(size <= TOGETHER for size in sizes)
+        return {it: [b"".join(self.waiting.pop(it))] for it in first[:count]}
+
+    async def put(self, storing: Storing) -> None:
+        """Has blobs stored in one exchange, and tells what the shard says to each."""
+        waiting, rest = iter(storing), "it has clashed"
+
+        def tell(told: "asyncio.Future[str]", said: str) -> None:
+            if not told.done():  # or nobody waits for it any more
+                told.set_result(said)
+
+        def heard(reply: client.Reply) -> None:
+            done = isinstance(reply.end, client.Answer) and reply.end.code == client.DONE
+            tell(next(waiting), "" if done else f"store at shard {self.number}: {client.in_words(reply.end)}")
+
+        try:
+            await self.exchange([*storing.values()], heard)
         except ConnectionError as error:
-            return str(error)
-        done = isinstance(reply.end, client.Answer) and reply.end.code == client.DONE
-        return "" if done else f"store at shard {self.number}: {client.in_words(reply.end)}"
+            rest = str(error)
+        for told in waiting:
+            tell(told, rest)
 
     async def drop(self) -> str:
         while self.idle:
