@@ -63,7 +63,7 @@ class TransferCase(unittest.IsolatedAsyncioTestCase):
     async def status(self, _: web.Request) -> web.Response:
         told = {"name": "node", "shards": [0], "next": [], "state": "answers", "said": self.said}
         status = {"epoch": 0, "moving": False, "faults": 1, "blobs": {}, "nodes": [told] * 9_000, "recent": []}
-        status["ledger"] = {"away": 0.0, "stale": False, "said": ""}
+        status["ledger"] = {"place": 1, "away": 0.0, "stale": False, "said": ""}
         return web.json_response(status)
 
     async def give(self, request: web.Request) -> web.StreamResponse:
