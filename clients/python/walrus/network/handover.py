@@ -22,12 +22,12 @@ LATER = 60.0  # seconds until an address that was refused is told again
 async def survey(node: "Node") -> tuple[dict[int, dict[bytes, bool]], list[bytes]]:
     """By epoch the blobs for which a shard is not settled though they are certified in the committee of now, or though
     the node has vouched for them, and whether it has; and those of the writing epoch for which all shards are settled
-    and it has not vouched. Of each it tells no more than MANY, or a few."""
+    and it has not vouched. Of each it tells no more than MANY."""
     ledger, lacks, unsaid = node.ledger, dict[int, dict[bytes, bool]](), list[bytes]()
     for epoch, side in list(node.sides.items()):
         ready = epoch == ledger.epoch and not ledger.moving and set(side) <= ledger.ready
         after = b""
-        while side and len(lacks.get(epoch, ())) < MANY and (page := ledger.blobs.page(after)):
+        while side and (page := ledger.blobs.page(after)):
             first, after = page[0][0], page[-1][0]
             held = [await node.store.settled(shard.holding, epoch, first, after) for shard in side.values()]
             for identifier, blob in page:
@@ -40,7 +40,8 @@ async def survey(node: "Node") -> tuple[dict[int, dict[bytes, bool]], list[bytes
                         unsaid.append(identifier)
                     continue
                 vouched = said or ready and certified is not None and certified < epoch
-                if vouched or certified is not None and epoch == ledger.epoch:
+                owed = vouched or certified is not None and epoch == ledger.epoch
+                if owed and len(lacks.get(epoch, ())) < MANY:
                     if not all(shard.settled(identifier) for shard in side.values()):
                         lacks.setdefault(epoch, {})[identifier] = vouched
     return lacks, unsaid
@@ -164,7 +165,7 @@ async def move(node: "Node") -> None:
                 await node.recorders.post(entry_key(node.name, "ready", epoch))
             if own and ledger.moving and len(ledger.ready) >= ledger.quorum:
                 await node.recorders.post(entry_key(node.name, "finish", epoch))
-        if said:  # it goes over all live blobs again, and others are to have turns, however many entries come
+        if said and ledger.moving:  # it goes over all live blobs again, and others are to have turns, however many entries come
             await asyncio.sleep(min(LATEST, 2 * (clock() - begun)))
         await node.until(lambda it: it.revision != revision, pause)
         pause = min(2 * pause, 5.0)

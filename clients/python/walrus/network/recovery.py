@@ -120,24 +120,31 @@ async def settle(node: "Node", epoch: int, owed: Collection[bytes] | Owed) -> in
     many they lack still. All of them are counted first."""
     losses, left, progress = node.store.losses, 0, Progress(epoch)
     async for lacks in lacking(node, epoch, owed):
+        if not lacks[0].shard.free_pages(LAST):  # what comes could not be kept, so the rest is not looked at
+            tell_full(node)
+            return len(lacks)
         progress.of += len(lacks)
     async for lacks in lacking(node, epoch, owed if progress.of else ()):
         left += await recover_all(node, lacks, progress)
+    progress.of = progress.blobs + left  # clients may have stored some of them meanwhile
     kept = await node.store.durable() and node.store.losses == losses
     return left if kept else max(1, left)  # the disk has lost something that was there when it was looked at
 
 
-async def lacking(node: "Node", epoch: int, owed: Iterable[bytes]) -> AsyncIterator[list[Lack]]:
+async def lacking(node: "Node", epoch: int, owed: Iterable[bytes] | Owed) -> AsyncIterator[list[Lack]]:
     """What the node's shards of an epoch want of these blobs, MANY or a few more at once. It is found page by page, so
-    that it holds up nobody else, and quickest where they are in order."""
+    that it holds up nobody else. Of all that is owed most is there; of a few blobs each is looked at alone."""
     shards, names, lacks = [*node.sides.get(epoch, {}).values()], iter(owed), list[Lack]()
     while some := [*itertools.islice(names, PAGE)]:
         for shard in shards:
-            held = await node.store.settled(shard.holding, epoch, min(some), max(some))
+            held = set[bytes]()
+            if isinstance(owed, Owed):
+                held = await node.store.settled(shard.holding, epoch, some[0], some[-1])
             lacks += [Lack(shard, it) for it in some if it not in held and shard.wants(it)]
             if len(lacks) >= MANY:
                 yield lacks
                 lacks.clear()
+            await asyncio.sleep(0)
     if lacks:
         yield lacks
 
@@ -239,7 +246,7 @@ async def fill(node: "Node", shard: Shard, identifier: bytes, late: bool = False
     """Recovers what a shard lacks of a blob from the others, also from those that are late if told so; whether they may
     have what is lacking still. A proof of bad encoding in its place is attested."""
     if not (metadata := await find_metadata(node, shard, identifier, late)):
-        return not late
+        return not late and any(it.late for side in sides(node) for it in side)
     shape, own = node.port.shape, shard.number
     crossing = shape.shards - 1 - own if metadata[0] == client.SECOND_METADATA else own
     targets = {PRIMARY: client.Symbol(identifier, 0, own), SECONDARY: client.Symbol(identifier, 1, crossing)}
