@@ -164,7 +164,9 @@ class Node(View):
             return await self.reply(shard, request)  # by the committee of now
         except (OSError, sqlite3.OperationalError) as fault:  # of the system: it fails this request alone
             self.port.tell(f"{self.name}: a request fails: {fault}", "failed")
-            raise ConnectionError(str(fault)) from fault
+            if request[0] != WHOLE:
+                raise ConnectionError(str(fault)) from fault
+            reply = [answer(NO_MEMORY)]  # others may have come with it, which go on
         except (Clash, sqlite3.Error) as fault:
             self.fail(fault)
             raise ConnectionError(str(fault)) from fault

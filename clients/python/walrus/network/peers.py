@@ -121,16 +121,25 @@ class Seat(client.Shard):
                 async with self.small, self.turns:
                     if taken := self.take():
                         await self.put(taken)
-        finally:
-            for told in (*taken, *self.waiting):  # where this is told to end
+        except asyncio.CancelledError:
+            for told in (*taken, *self.waiting):
                 told.cancel()
+            raise
+        except Exception as fault:  # whatever it is, each hears it as his own
+            for told in (*taken, *self.waiting):
+                if not told.done():
+                    told.set_result(str(fault) or type(fault).__name__)
+            raise
 
     def take(self) -> Storing:
         """Those that wait first, as many as go together. They are copied, as who gives up lets go of the blob."""
         first = [*itertools.islice(self.waiting, MANY)]
         sizes = itertools.accumulate(sum(map(len, self.waiting[it])) for it in first)
         count = sum(size <= TOGETHER for size in sizes)
-        return {it: [b"".join(self.waiting.pop(it))] for it in first[:count]}
+        taken: Storing = {it: [b"".join(self.waiting[it])] for it in first[:count]}
+        for told in taken:
+            del self.waiting[told]
+        return taken
 
     async def put(self, storing: Storing) -> None:
         """Has blobs stored in one exchange, and tells what the shard says to each."""
@@ -176,13 +185,16 @@ class Peers:
 
     async def connect(self, name: str) -> Wire:
         """A connection to a node, at the first of its addresses that takes one soon. The one that took the last is
-        tried first, so that another one which drops what is sent there, as firewalls do, costs time once."""
+        tried first, so that another one which drops what is sent there, as firewalls do, costs time once; and it is
+        tried again behind all others, as it may be slow."""
         port, hosts = self.address(name)[1], await self.find(name)
         *others, last = sorted(hosts, key=lambda it: it != self.taken.get(name))
+        if others and others[0] == self.taken.get(name):
+            others, last = [*others, last], others[0]
         to = functools.partial(connect, port=port, ssl=self.context, server_hostname=name)
         for host in others:
             with contextlib.suppress(OSError):  # such as `TimeoutError`
-                async with asyncio.timeout(min(FIRST, self.seconds / len(hosts))):
+                async with asyncio.timeout(min(FIRST, self.seconds / (len(others) + 1))):
                     wire = await to(host)
                 self.taken[name] = host
                 return wire
