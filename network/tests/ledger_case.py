@@ -14,7 +14,7 @@ from typing import Any, Callable, Iterator, Optional
 import aiohttp
 import harness
 from walrus.network import recording
-from walrus.network.blobs import Blob, Blobs
+from walrus.network.blobs import Blob, Blobs, Owed
 from walrus.network.checkpoint import Mark
 from walrus.network.etcd import Batch, Etcd, Failed, Gone
 from walrus.network.entries import ACK, ATTEST, Chain
@@ -31,6 +31,16 @@ FOUNDED = entry_key(OPERATOR, "begin", 0, 1, FOUR)
 
 def registration(poster: str, number: int, until: int = 5) -> str:
     return entry_key(poster, REGISTER, number.to_bytes(32, "big").hex(), until)
+
+
+class Listed(Owed):
+    """All that is owed, from a list."""
+
+    def __init__(self, names: list[bytes]):
+        self.listed = names
+
+    def __iter__(self) -> Iterator[bytes]:
+        return iter(self.listed)
 
 
 @unittest.skipIf(shutil.which("etcd") is None, "etcd is not here")

@@ -11,7 +11,7 @@ import unittest
 from typing import Any
 from unittest import mock
 
-from ledger_case import FOUNDED, registration
+from ledger_case import FOUNDED, Listed, registration
 from walrus import port
 from walrus.network import figures, recovery, scrub, state
 from walrus.network.entries import Chain, Entry
@@ -181,7 +181,7 @@ class Turns(TurnCase):
         owed, asked = [it.to_bytes(32, "big") for it in range(100)], mock.Mock()
         self.node.ledger, self.node.sides = asked, {1: {0: types.SimpleNamespace(holding=1)}}
         with mock.patch.object(self.store, "settled", mock.AsyncMock(return_value={*owed})):
-            self.assertEqual(await recovery.settle(self.node, 1, owed), 0)
+            self.assertEqual(await recovery.settle(self.node, 1, Listed(owed)), 0)
         self.assertEqual(asked.mock_calls, [])
 
 

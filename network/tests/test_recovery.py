@@ -8,6 +8,7 @@ from typing import Any
 from unittest import mock
 
 from harness import lacking
+from ledger_case import Listed
 from shard_case import LARGE, NodeCase
 
 import example_tools
@@ -142,7 +143,7 @@ class Left(NodeCase):
         self.enterContext(mock.patch.object(recovery, "PAGE", 1))
         for _ in range(2):  # while the other one is recovered, and then while it is there
             with mock.patch.object(self.store, "settled", settled):
-                self.assertGreater(await recovery.settle(node, 0, names), 0)
+                self.assertGreater(await recovery.settle(node, 0, Listed(names)), 0)
             self.assertEqual([self.shard.settled(it) for it in names], [False, True])
         self.assertEqual(await recovery.settle(node, 0, names), 0)
 
