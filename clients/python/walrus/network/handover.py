@@ -165,7 +165,7 @@ async def move(node: "Node") -> None:
                 await node.recorders.post(entry_key(node.name, "ready", epoch))
             if own and ledger.moving and len(ledger.ready) >= ledger.quorum:
                 await node.recorders.post(entry_key(node.name, "finish", epoch))
-        if said and ledger.moving:  # it goes over all live blobs again, and others are to have turns, however many entries come
+        if said and ledger.moving:  # it looks at all live blobs again: others have turns, however many entries come
             await asyncio.sleep(min(LATEST, 2 * (clock() - begun)))
         await node.until(lambda it: it.revision != revision, pause)
         pause = min(2 * pause, 5.0)
