@@ -89,7 +89,7 @@ class Large(bench.Bench):
         self.files = files_of(round(words.gigabytes * 1e9), words.compressible)
         self.moved = 0  # bytes in the step that runs
         self.places, self.rows = dict[str, pathlib.Path](), list[tuple[str, str]]()
-        self.session = aiohttp.ClientSession(timeout=aiohttp.ClientTimeout(total=None, sock_read=120))
+        self.session = aiohttp.ClientSession(timeout=aiohttp.ClientTimeout(total=None))  # `--minutes` bounds all
         self.fine = True
 
     def row(self, what: str, said: str) -> None:
