@@ -18,6 +18,8 @@ from walrus.network.entries import ADDRESS, Chain, entry_key
 from walrus.network.settings import RecorderSettings
 from walrus.network.waiting import Waiting
 
+KILLS = 500  # at most: on a machine that is too busy for a call between two of them nothing would ever come about
+
 
 class FullDisk(unittest.IsolatedAsyncioTestCase):
     async def asyncSetUp(self) -> None:
@@ -205,7 +207,9 @@ class Steps(unittest.IsolatedAsyncioTestCase):
         try:
             await self.run_one(etcd, [FOUNDED], recorders)
             posters = asyncio.gather(*(self.run_one(etcd, it, recorders) for it in texts))
-            while killed and not posters.done():
+            kills = KILLS if killed else 0
+            while kills and not posters.done():
+                kills -= 1
                 await asyncio.sleep(self.drawn.uniform(0, 0.004))
                 which = self.drawn.randrange(2)
                 tasks[which].cancel()
