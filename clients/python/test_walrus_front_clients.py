@@ -141,7 +141,7 @@ class Connections(unittest.IsolatedAsyncioTestCase):
             while front.kept < 1_048_576:
                 await asyncio.sleep(0.05)
         self.assertRegex(
-            self.told[0], r"^client 127\.0\.0\.1:\d+ is cut off: too much is kept, and it is at it for longest"
+            self.told[0], r"^client 127\.0\.0\.1:\d+ is cut off: too much memory is used, by this client for longest"
         )
         self.assertEqual((front.kept, second.at_eof(), len(front.connections)), (1_048_576, False, 2))
         self.assertEqual(await example_tools.codes(shard, entry), [0])

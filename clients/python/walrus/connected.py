@@ -36,8 +36,8 @@ class Said(NamedTuple):
 
 @dataclasses.dataclass(eq=False)
 class Connection:
-    """A client: when its present step began, whether it had a reply of a shard, the bytes kept for it, and its replies
-    to send."""
+    """A client: when its present step began, whether a request of it reached a shard, the bytes kept for it, and its
+    replies to send."""
 
     task: "asyncio.Task[None]"
     address: tuple[Any, ...]
