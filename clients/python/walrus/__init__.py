@@ -6,8 +6,8 @@
 
 Each call runs one command of the program (README.md, 'Which command for what') and returns a view of its result. If
 there is no result, the call raises a `Refused`, which has the program's status and words, and a `Code` that names the
-cause for the caller's code. With the library, a call starts no process, copies no input, and releases the interpreter's
-lock: several threads may call at the same time, for example by `asyncio.to_thread(walrus.read, ..)`.
+cause for the caller's code. With the library, a call starts no process, does not copy an input that is one buffer, and
+releases the interpreter's lock: threads may call at the same time, as by `asyncio.to_thread(walrus.read, ..)`.
 During a call nobody may write to its input. If a process with several threads forks, the child must make no calls.
 """
 

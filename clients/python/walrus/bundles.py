@@ -1,4 +1,4 @@
-"""Bundles of small files: one blob contains up to 2f files, its members, and a member is read by its columns alone.
+"""Bundles of small files: one blob contains up to 2f files, its members; one is read from the columns that it fills.
 
 `walrus bundle` makes a bundle, which is published like any other blob. A column is a secondary sliver. The shard that
 holds it replies its symbols one by one; if that shard is lost or lies, the column is recovered from openings of f+1

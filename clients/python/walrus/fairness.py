@@ -1,5 +1,5 @@
-"""A fair semaphore: its places go round-robin to the clients' addresses, so no client waits behind all requests of
-another."""
+"""A fair semaphore: its places go round-robin to the origins of the waiters, such as client addresses. So no waiter has
+to wait behind all waiters of another origin."""
 
 import asyncio
 import collections
@@ -69,7 +69,7 @@ class Fair:
         self.serve()
 
     def serve(self) -> None:
-        """Give the free places to the waiters whose turn it is. A waiter that gave up costs its origin no turn."""
+        """Give the free places to the waiters whose turn it is. A waiter that gave up costs nobody a turn."""
         while self.free and self.waiting:
             if (place := self.waiting.first()).done():
                 self.waiting.drop(next(iter(self.waiting)), place)
