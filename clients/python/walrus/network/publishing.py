@@ -204,7 +204,7 @@ class Publisher:
 
 
 def failed_with(fault: Exception, stored: list[str], headers: Optional[dict[str, str]] = None) -> Problem:
-    """Returns the error for a file that was not stored. It lists the certified pieces: the next try skips these."""
+    """Returns the error for a file that was not stored. It lists the certified pieces, which are not stored again."""
     problem = problem_of(fault)
     problem.headers = {**problem.headers, **(headers or {})}
     if stored:
