@@ -1,4 +1,4 @@
-"""The parts of the gateway and its commands that need no network: ranges, a bar, groups of tasks."""
+"""Parts of the gateway and its commands that need no network: ranges, a progress bar, groups of tasks."""
 import asyncio
 import io
 import pathlib
@@ -136,7 +136,7 @@ class Commands(unittest.IsolatedAsyncioTestCase):
 
 
 class Groups(unittest.IsolatedAsyncioTestCase):
-    """What runs beside each other."""
+    """Groups of tasks that run at once."""
 
     async def asyncSetUp(self) -> None:
         self.running = self.most = self.done = self.ended = 0

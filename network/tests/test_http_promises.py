@@ -1,5 +1,5 @@
-"""What the pages promise of a gateway in a half-sentence: lengths of time, lists, digests, numbers, and what goes on
-side by side."""
+"""What the pages promise of a gateway in half a sentence: lengths of time, lists, digests, metrics, and what happens
+concurrently."""
 import asyncio
 import base64
 import hashlib
@@ -19,7 +19,7 @@ DAY = 86_400
 
 
 class Times(GuardCase):
-    """For how long something is kept."""
+    """For how long blobs are kept."""
 
     async def asyncSetUp(self) -> None:
         await super().asyncSetUp()
@@ -42,7 +42,7 @@ class Times(GuardCase):
             await self.refused(method, f"{path}?epochs=7&deletable=true", "'deletable' is not a query parameter")
 
     async def test_a_length_of_time_counts_by_the_calendar(self) -> None:
-        """Epochs of 14 days since a year before: 14 days are over with the 27th, and what is kept is kept longer."""
+        """Epochs of 14 days that began a year ago: 14 days end within the 27th, so a blob is kept until after it."""
         since = int(time.time() - 365 * DAY) // 60
         await self.operator.post(entry_key(OPERATOR, "calendar", 0, since, 14 * 1_440))
         self.assertTrue(await self.network.until(lambda it: it.calendar[2] > 0))
@@ -100,7 +100,7 @@ class Lists(GuardCase):
 
 
 class Known(GuardCase):
-    """What the table of HTTP.md says of Walrus' own gateways."""
+    """The table of HTTP.md for those who know Walrus' own gateways."""
 
     async def test_what_is_not_here_is_refused(self) -> None:
         await self.start()
@@ -160,7 +160,7 @@ class Numbers(GuardCase):
 
 class Beside(GuardCase):
     async def test_files_of_a_folder_are_stored_side_by_side(self) -> None:
-        """As many as `AHEAD`, and no more; the manifest comes once all of them are there."""
+        """`AHEAD` of them at once, and no more; the manifest follows once all of them are stored."""
         await self.start()
         true, now, seen = self.gateway.publisher.writer.store, 0, list[int]()
 

@@ -73,7 +73,7 @@ class Announcer:
         words = dict[int, str]()
         for step in (("store the proof", proof, (client.DONE, client.HELD)), ("attest", attest, client.COUNTS)):
             said = await all_of(client.take_steps(seat, [step]) for seat in seats)
-            words = {it.number: words.get(it.number) or text for it, (_, text) in zip(seats, said)}  # one word a node
+            words = {it.number: words.get(it.number) or text for it, (_, text) in zip(seats, said)}  # first refusals
         await network.until(lambda it: it.invalid(identifier), HEARD)
         attested = [str(number) for number, text in words.items() if not text]
         refused = [f"shard {number}: {text}" for number, text in words.items() if text]

@@ -35,7 +35,7 @@ from .uploads import Uploads
 
 __all__ = ["Gateway", "Options", "ending", "serve"]
 MMAP_THRESHOLD = -3  # an option of the C library's mallopt
-sslproto.SSLProtocol.max_size = 65_536  # as at nodes
+sslproto.SSLProtocol.max_size = 65_536  # bytes that each TLS connection holds ready, as at nodes; else 256 KiB
 POLICY = "default-src 'none'; style-src 'self'; script-src 'self'; connect-src 'self'; frame-ancestors 'none'"
 POLICY += "; form-action 'none'; base-uri 'none'"
 OWN = {**ALONE, "Content-Security-Policy": POLICY, "Cache-Control": "no-cache"}

@@ -17,12 +17,12 @@ Value = Union[float, Mapping[str, float]]  # a number, or numbers by labels such
 CONNECTIONS = 32  # the most connections of clients that ask a node for metrics
 PROCESS = ProcessCollector(registry=CollectorRegistry(auto_describe=False))  # of this process: memory, descriptors
 MEANT = {
-    "bad_encodings": "Blobs that were found to be badly encoded, by what came of announcing them",
+    "bad_encodings": "Blobs that were found to be badly encoded, by the outcome of announcing them",
     "blobs": "Blobs that are registered, certified, or declared invalid",
     "blobs_read": "Blobs that were read from the network",
     "cache_bytes": "Bytes that the cache takes",
-    "cache_hits": "Readings that found a blob in the cache, or on its way there",
-    "challenges": "Challenges, by what was found",
+    "cache_hits": "Reads that found a blob in the cache, or on its way there",
+    "challenges": "Challenges, by finding",
     "epoch": "The epoch",
     "http_bytes": "Bytes of files, in and out",
     "http_requests": "Requests, by method and status",
