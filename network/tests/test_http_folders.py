@@ -212,9 +212,9 @@ class Folders(FolderGatewayCase):
             ("%FF", {}, "no UTF-8"),
             ("a%0D%0Ab", {}, "control character"),
             ("a" * 256, {}, "too long"),
-            ("a", {"Content-Type": "text/html; charset=latin-1"}, "no media type that is kept"),
-            ("a", {"Content-Type": "multipart/form-data; boundary=x"}, "no media type that is kept"),
-            ("a", {"Content-Type": "text"}, "no media type that is kept"),
+            ("a", {"Content-Type": "text/html; charset=latin-1"}, "no media type that can be kept"),
+            ("a", {"Content-Type": "multipart/form-data; boundary=x"}, "no media type that can be kept"),
+            ("a", {"Content-Type": "text"}, "no media type that can be kept"),
         ):
             url = yarl.URL(f"{self.url}/v1/blobs?epochs=5&filename={name}", encoded=True)
             async with self.session.put(url, data=b"x", headers=sent, skip_auto_headers=AUTO) as refused:
