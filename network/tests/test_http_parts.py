@@ -128,7 +128,7 @@ class Commands(unittest.IsolatedAsyncioTestCase):
         async with aiohttp.ClientSession(server.make_url(""), timeout=limit) as session:
             with mock.patch.object(transfers, "PATIENCE", 1):
                 self.assertEqual(await transfers.put(session, parts(b"part", 0.06), 5), {"size": 100})
-                with self.assertRaisesRegex(TimeoutError, "nothing was taken, or answered, for 1 s"):
+                with self.assertRaisesRegex(TimeoutError, "the gateway took nothing, and did not answer, for 1 s"):
                     is_over.clear()
                     await transfers.put(session, parts(bytes(10**6), 0), 9)
             goes_on.set()

@@ -55,7 +55,7 @@ class Costs(Charge):
 
 
 class Storing:
-    """Files that are stored together until the same epoch. Identifiers of certified blobs are added to `stored`."""
+    """Files that are stored together until the same epoch. Identifiers of certified pieces are added to `stored`."""
 
     def __init__(self, writer: Writer, costs: Costs, epochs: int, stored: list[bytes]):
         self.writer, self.costs, self.stored, self.is_new = writer, costs, stored, False
