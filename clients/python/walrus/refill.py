@@ -13,7 +13,8 @@ async def give(shard: client.Shard, step: client.Step) -> None:
 
 
 async def give_metadata(shard: client.Shard, others: client.Shards, identifier: bytes) -> bytes:
-    """Gives a shard each metadata that the others return until it accepts one, and returns that; `Failed` if none."""
+    """Gives a shard each metadata that the others return, until it accepts one, and returns that. Raises `Failed` if
+    the shard accepts none."""
     asked = client.write_frame(client.Symbol(identifier, PRIMARY, shard.number))
     heard = await asyncio.gather(*[client.listen(other, asked) for other in others])
     said = {number: words for number, _, words in heard}

@@ -35,8 +35,8 @@ class Process:
         self.child = await asyncio.create_subprocess_exec(*self.words, stdin=PIPE, stdout=PIPE, limit=2**20)
 
     async def ask(self, requests: Iterable[bytes]) -> list[list[bytes]]:
-        """Returns the replies to one request, or to a few small ones. A process that fails (`Ended`), or for which
-        nobody waits any more, is ended."""
+        """Returns the replies to one request, or to a few small ones. If the process fails it is ended, and `Ended` is
+        raised; if the caller is cancelled, it is killed."""
         assert self.child and self.child.stdin and self.child.stdout
         data = [client.envelope(request) for request in requests]
         self.sent += sum(map(len, data))

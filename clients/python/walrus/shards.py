@@ -58,13 +58,13 @@ class Asked(bytes):
 
     @classmethod
     def for_proof(cls, payload: bytes) -> "Asked":
-        """Returns a request of whose reply only a proof of bad encoding is kept, and nothing else that is large."""
+        """Returns a request for a proof of bad encoding: nothing else that is large is kept of its reply."""
         made = cls(payload)
         made.basket, made.is_for_proof = Sieve(1, True), True
         return made
 
     def hear(self, shape: Shape, payload: bytes) -> None:
-        """Sets the lengths of the payloads that may come, once the blob's own metadata came, if any can be large."""
+        """Once the blob's own metadata has come, sets the lengths of the payloads that may follow, if any is large."""
         is_metadata = payload[:1] in (bytes([METADATA]), bytes([SECOND_METADATA])) and shape.allows(payload)
         if not self.basket.size and is_metadata:
             size, proofs = shape.lengths_of(payload, self)
@@ -102,7 +102,8 @@ class Shard(contextlib.AbstractAsyncContextManager["Shard"]):
         raise NotImplementedError  # returns the streams, which it opens if they are not open
 
     async def ask(self, *requests: Request) -> list[Reply]:
-        """Returns the replies to payloads, in order and up to a clash, within one deadline; else `ConnectionError`."""
+        """Returns the replies to payloads, in order and up to a clash, within one deadline. Raises `ConnectionError` if
+        the shard fails, which it then does for good."""
         task = asyncio.create_task(self.exchange(requests))  # it goes on if nobody waits, to keep replies in step
         self.exchanges.add(task)
         task.add_done_callback(self.exchanged)
@@ -213,7 +214,8 @@ def shape_of(shards: Shards) -> Shape:
 
 
 async def take_steps(shard: Shard, steps: Sequence[Step]) -> tuple[int, str]:
-    """Asks a shard to take these steps. Returns how many it took, and the first answer not accepted, or the fault."""
+    """Asks a shard to take these steps. Returns how many it took, and in words the first answer that is not accepted,
+    or the fault; these words are empty if it took all."""
     try:
         replies = await shard.ask(*[payload for _, payload, _ in steps])
     except ConnectionError as error:
@@ -224,7 +226,8 @@ async def take_steps(shard: Shard, steps: Sequence[Step]) -> tuple[int, str]:
 
 
 async def listen(shard: Shard, request: bytes) -> tuple[int, dict[int, bytes], str]:
-    """Asks a shard. Returns its number, the useful payloads of its reply, and in words these, or what failed."""
+    """Asks a shard for parts. Returns its number, the useful payloads of its reply by kind, and in words what these
+    are, or why there are none."""
     try:
         [reply] = await shard.ask(request)
     except ConnectionError as error:

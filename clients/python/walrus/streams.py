@@ -61,8 +61,8 @@ def split(stream: bytes) -> list[tuple[int, bytes]]:
 
 
 async def take_envelope(stream: Source, longest: int, basket: Optional[Basket] = None) -> tuple[int, bytes]:
-    """Returns the sender and the payload of the next envelope; raises `Fault` if it is none, or longer than this. Large
-    payloads come into the basket, if one is given, or are skipped, as `PASSED` then says."""
+    """Returns the sender and the payload of the next envelope; raises `Fault` if it is none, or longer than this. With
+    a basket, large payloads come there, or are skipped and replaced by a mark such as `PASSED`."""
     mark, sender, size = HEAD.unpack(await stream.readexactly(HEAD.size))
     if mark != MARK or size > longest:
         raise Fault("too long" if mark == MARK else "no envelope")

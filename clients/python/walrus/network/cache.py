@@ -68,7 +68,8 @@ class Cache:
         return entry
 
     def make_room(self) -> bool:
-        """Drops unused entries, the least recently used first, until the largest blob has room; whether it has."""
+        """Drops unused entries, the least recently wanted first, until the largest blob has room. Returns whether it
+        has."""
         while self.size + client.LARGEST_BLOB + EXTRA > self.room:
             unused = next((it for it, entry in self.entries.items() if entry.task.done() and not entry.users), None)
             if unused is None:

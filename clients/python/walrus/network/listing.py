@@ -17,7 +17,7 @@ from .turns import ASKING, Turns, owner_of
 
 PAGE, AT_ONCE = 1_000, 2  # blobs on a page of a list; lists that are made at once
 FEW = 50  # blobs that are put on a page before other tasks run
-SHORT, LONG = 1_024, 2  # any number of files of up to SHORT blobs are kept for longer at once, of longer ones LONG
+SHORT, LONG = 1_024, 2  # requests for up to SHORT blobs are kept for longer in any number at once, larger ones LONG
 
 
 class Lister:
@@ -28,7 +28,7 @@ class Lister:
         self.turns, self.long = Turns(AT_ONCE), Turns(LONG)
 
     async def list(self, request: web.Request) -> web.StreamResponse:
-        """Lists blobs that end within some epochs, in the order of their identifiers, from after one of these on."""
+        """Lists blobs that end within some epochs, in the order of their identifiers, from after one that is given."""
         ledger, after, within = (
             self.network.ledger,
             request.query.get("after", ""),
@@ -73,7 +73,7 @@ class Lister:
                 return await self.keep(name, epochs, charge, MOST_BLOBS)
 
     async def keep(self, name: bytes, epochs: int, charge: Charge, most: int) -> dict[str, object]:
-        """Does this for what has at most `most` blobs; raises `Many` if it has more."""
+        """Does the work of `extend` for what has at most `most` blobs; raises `Many` if it has more."""
         network, until = self.network, self.network.ledger.writing_epoch + epochs
         size, names = await self.shelf.consists(name, most)
         short, end = list[bytes](), LAST_UNTIL

@@ -10,7 +10,7 @@ from typing import IO, Optional
 from .chunks import PIECE
 
 LONGEST = 255  # most bytes of a file's name
-FULL = errno.ENOSPC, errno.EDQUOT, errno.EFBIG  # errors of a disk whose room is needed
+FULL = errno.ENOSPC, errno.EDQUOT, errno.EFBIG  # errors of a full disk, on which nothing is left
 
 
 def beside(path: str, identifier: str) -> str:
@@ -21,7 +21,7 @@ def beside(path: str, identifier: str) -> str:
 
 
 def opened(path: str) -> Optional[IO[bytes]]:
-    """Returns the file there, or a new one, locked; None if another process has it, or it may not be ours alone."""
+    """Returns the file there, or a new one, locked; None if another process has it, or it may be written by others."""
     with contextlib.suppress(OSError), contextlib.ExitStack() as stack:
         file = stack.enter_context(open(path, "r+b", opener=made))
         found = os.fstat(file.fileno())

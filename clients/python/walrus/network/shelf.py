@@ -76,7 +76,8 @@ class Shelf:
                 self.size -= 0 if is_none else len(dropped.result().data)
 
     async def load(self, name: bytes) -> Manifest:
-        ASKING.set("folders")  # in this task: others may wait for it too, and not behind all that one client asks for
+        # In this task alone: other clients wait for it too, and must not wait behind all that the first one asks for.
+        ASKING.set("folders")
         async with self.turn:
             try:
                 return await self.made(name)

@@ -20,7 +20,8 @@ KINDS = {stat.S_IFLNK: "a link", stat.S_IFSOCK: "a socket", stat.S_IFIFO: "a pip
 
 
 async def several(works: Iterable[Work]) -> None:
-    """Does these, `WIDTH` at once, until all are done or one fails. It completes those under way, then raises."""
+    """Runs these, `WIDTH` at once, until all are done or one fails. What is under way then is completed, before the
+    first fault is raised."""
     left, faults = iter(works), list[Exception]()
 
     async def go_on() -> None:
