@@ -1,4 +1,4 @@
-"""Small files that go up together as one bundle, and come back from its columns; what is no form; challenges."""
+"""Small files that are stored as one bundle, and are read from its columns; malformed forms; challenges."""
 import asyncio
 import json
 import random
@@ -19,7 +19,7 @@ class Bundles(GatewayCase):
     options = Options(seconds=1, challenge=0, patience=60)
 
     async def form(self, *files: bytes, path: str = "/v1/bundles?epochs=5") -> Answer:
-        """What curl gets for a form with these files."""
+        """Returns what curl gets for a form with these files."""
         words: list[str] = []
         for number, data in enumerate(files):
             sent = self.folder / f"part-{number}"
@@ -58,7 +58,7 @@ class Bundles(GatewayCase):
         await self.nodes_that_die_and_lie(told, files)
 
     async def read_all(self, told: dict[str, Any], files: list[bytes]) -> None:
-        """Each file comes as it was, whole and in parts."""
+        """Each file comes back unchanged, whole and in parts."""
         for it, data in zip(told["members"], files):
             status, headers, body = await self.member(it["id"])
             self.assertEqual((status, headers["etag"]), (200, f'"{it["id"]}"'), body[:200])
@@ -75,7 +75,7 @@ class Bundles(GatewayCase):
         name, alone = told["blobId"], (await self.put(b"no bundle"))["blobId"]
         error = await self.refused(404, f"/v1/bundles/{name}/2")
         self.assertEqual(error["text"], "the bundle has 2 members, whose numbers begin with 0")
-        for _ in range(2):  # read, and known from then on
+        for _ in range(2):  # it is read, and then known
             error = await self.refused(404, f"/v1/bundles/{alone}/0")
             self.assertIn("no bundle", error["text"])
         self.assertEqual((await self.get(alone))[2], b"no bundle")
@@ -107,7 +107,7 @@ class Bundles(GatewayCase):
         self.assertEqual(len(self.network.ledger.blobs), before)
 
     async def strange(self, number: int) -> None:
-        """No form, however wrong, causes an error of the gateway's own, or is left without an end."""
+        """No form, however wrong, causes an internal error of the gateway, or waits for ever."""
         drawn = random.Random(number)
         part = b'--x y\r\nContent-Disposition: form-data; name="a"; filename="b"\r\n\r\n%s\r\n' % drawn.randbytes(9)
         form = bytearray(part * drawn.randrange(4) + b"--x y--\r\n")
@@ -127,7 +127,7 @@ class Bundles(GatewayCase):
         self.assertLessEqual(statuses, {200, 201, 400, 404, 405, 408, 413, 415}, (form, head, said[:300]))
 
     async def say(self, data: bytes) -> bytes:
-        """All that comes back for some bytes, behind which the input ends once an answer had its time."""
+        """Returns all that comes back for these bytes; their input ends once there was time for an answer."""
         reader, writer = await asyncio.open_connection("127.0.0.1", self.port)
         heard = asyncio.create_task(reader.read(-1))
         try:
@@ -141,7 +141,7 @@ class Bundles(GatewayCase):
             writer.transport.abort()
 
     async def nodes_that_die_and_lie(self, told: dict[str, Any], files: list[bytes]) -> None:
-        """Where the holder of a column is gone or lies, the column is recovered from the others."""
+        """If the holder of a column is gone or lies, the column is recovered from the others."""
         for lost in ("node-1", "node-2"):
             await self.local.end(lost, kill=True)
             self.forget()
@@ -155,7 +155,7 @@ class Bundles(GatewayCase):
         await self.challenges(told["blobId"])
 
     def forget(self) -> None:
-        """Empties the cache."""
+        """Empties the cache of the gateway."""
         self.gateway.reader.cache.entries.clear()
         self.gateway.reader.cache.size = 0
 

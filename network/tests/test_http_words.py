@@ -25,7 +25,7 @@ class Words(unittest.IsolatedAsyncioTestCase):
         self.folder = pathlib.Path(made.name)
 
     def said(self, *words: object, status: int = 0) -> str:
-        """What walrus-net prints, with this exit status."""
+        """Returns what walrus-net prints, and checks its exit status."""
         out, error = io.StringIO(), io.StringIO()
         with contextlib.redirect_stdout(out), contextlib.redirect_stderr(error):
             with mock.patch.object(sys, "argv", ["walrus-net", *map(str, words)]):
