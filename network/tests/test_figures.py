@@ -63,7 +63,7 @@ class Figures(GatewayCase):
     async def test_a_gateway_that_asks_no_node_any_more_ends(self) -> None:
         await self.local.up(FOUR)
         self.enterContext(mock.patch.object(Watch, "probe", mock.AsyncMock(side_effect=TypeError("an odd reply"))))
-        with self.assertRaisesRegex(RuntimeError, "it asks the nodes no more: TypeError: an odd reply"):
+        with self.assertRaisesRegex(RuntimeError, "it can no longer ask the nodes: TypeError: an odd reply"):
             async with asyncio.timeout(30):
                 await gateway.serve(self.folder, "127.0.0.1", 0, gateway.Options(challenge=0), asyncio.Event())
 

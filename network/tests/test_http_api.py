@@ -104,7 +104,7 @@ class Told(UploadCase):
                     self.assertEqual((status, told["error"]["text"][:21]), (404, "the blob is no folder"), path)
                 else:
                     self.assertEqual(status, 400, (method, path, told))
-                    self.assertIn("'epohcs' is no word of this request's query", told["error"]["text"], (method, path))
+                    self.assertIn("'epohcs' is not a query parameter", told["error"]["text"], (method, path))
         self.assertEqual(self.stored, [])
 
     async def test_each_header_is_told(self) -> None:

@@ -37,9 +37,9 @@ class Times(GuardCase):
             await self.refused(method, path, "?epochs=N, 1 to 100, or for how long, as ?for=90d")
             await self.refused(method, f"{path}?epochs=101", "1 to 100")  # and is not cut down to it
             await self.refused(method, f"{path}?for=90d", "no calendar by which 90d could be counted")
-            await self.refused(method, f"{path}?for=90d&epochs=7", "epochs or for, and not both")
-            await self.refused(method, f"{path}?epoch=7", "'epoch' is no word of this request's query: it takes epochs")
-            await self.refused(method, f"{path}?epochs=7&deletable=true", "'deletable' is no word")
+            await self.refused(method, f"{path}?for=90d&epochs=7", "send either epochs or for, not both")
+            await self.refused(method, f"{path}?epoch=7", "'epoch' is not a query parameter of this request: it takes")
+            await self.refused(method, f"{path}?epochs=7&deletable=true", "'deletable' is not a query parameter")
 
     async def test_a_length_of_time_counts_by_the_calendar(self) -> None:
         """Epochs of 14 days since a year before: 14 days are over with the 27th, and what is kept is kept longer."""
@@ -107,7 +107,7 @@ class Known(GuardCase):
         for word in ("send_object_to=0x1", "deletable=true", "permanent=true", "encoding_type=RS2"):
             status, _, told = await self.ask("PUT", f"/v1/blobs?epochs=1&{word}", data=b"x")
             self.assertEqual((status, self.stored), (400, []), word)
-            self.assertIn(f"{word.partition('=')[0]!r} is no word", told["error"]["text"])
+            self.assertIn(f"{word.partition('=')[0]!r} is not a query parameter", told["error"]["text"])
         for path in ("/v1/blobs/by-object-id/0x1", "/v1/quilts", "/v1/blobs/by-quilt-patch-id/x"):
             self.assertEqual((await self.ask("GET", path))[0], 404, path)
         self.assertEqual((await self.ask("GET", f"/v1/blobs/{'0' * 64}?filename=a"))[0], 400)

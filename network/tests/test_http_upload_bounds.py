@@ -124,7 +124,7 @@ class Refused(UploadCase):
         disk.f_bavail = 1_300
         status, headers, told = await self.go_on(path, 600, data[600:], end=True)
         self.assertEqual((status, headers["upload-offset"]), (507, "600"))
-        self.assertIn("what has come of an upload stays", told["error"]["text"])
+        self.assertIn("what has come of it stays", told["error"]["text"])
         disk.f_bavail = 2_000
         status, _, told = await self.go_on(path, 600, data[600:], end=True)
         self.assertEqual((status, told["blobId"]), (200, self.name_of(data)))
