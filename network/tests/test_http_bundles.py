@@ -75,7 +75,7 @@ class Bundles(GatewayCase):
         name, alone = told["blobId"], (await self.put(b"no bundle"))["blobId"]
         error = await self.refused(404, f"/v1/bundles/{name}/2")
         self.assertEqual(error["text"], "the bundle has 2 members, whose numbers begin with 0")
-        for _ in range(2):  # read, and known from then on
+        for _ in range(2):  # it is read, and then known
             error = await self.refused(404, f"/v1/bundles/{alone}/0")
             self.assertIn("no bundle", error["text"])
         self.assertEqual((await self.get(alone))[2], b"no bundle")
@@ -155,7 +155,7 @@ class Bundles(GatewayCase):
         await self.challenges(told["blobId"])
 
     def forget(self) -> None:
-        """Empties the cache."""
+        """Empties the cache of the gateway."""
         self.gateway.reader.cache.entries.clear()
         self.gateway.reader.cache.size = 0
 

@@ -73,7 +73,7 @@ class Caches(unittest.IsolatedAsyncioTestCase):
             with self.assertRaises(client.NoBundle):
                 await self.want(b"never a bundle")
         self.assertEqual(self.reads, [b"never", b"never a bundle"])
-        self.assertEqual(set(lengths[1:]), {lengths[1]})  # what was raised before is not kept with it
+        self.assertEqual(set(lengths[1:]), {lengths[1]})  # it does not keep what was raised before
 
     async def test_with_a_refusal_nothing_stays_of_what_was_read_nor_of_who_asked(self) -> None:
         """Otherwise requests for members of a blob that is no bundle fill the memory, with a column for each number."""
