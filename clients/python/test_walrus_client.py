@@ -162,7 +162,7 @@ class Errors(ProgramCase):
     async def test_words_that_shards_refuse(self):
         encoded = await self.walrus.encode(b"some blob", 1)
         refused = await self.no_quorum(await self.shards(1, "--pages", "0"), encoded)
-        self.assertIn("its process ended with status 2 (it refuses its words)", refused.said[0])
+        self.assertIn("its process ended with status 2 (wrong arguments)", refused.said[0])
         nobody = [ProcessShard(client.Walrus("/nowhere"), 1, number) for number in range(4)]
         self.assertEqual((await self.no_quorum(nobody, encoded)).said[3], "no such file or directory")
 
