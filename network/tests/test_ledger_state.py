@@ -71,7 +71,7 @@ class States(RulesCase):
                 each.ledger.apply(Entry(place, entry_key("x", "register", name, 2)))
             each.save(chain.behind(kept))
         pieces = [zlib.compress(it) for it in other.written()]
-        with self.assertRaisesRegex(ValueError, "a piece of the checkpoint is torn"):
+        with self.assertRaisesRegex(ValueError, "a piece of the checkpoint is damaged"):
             checkpoint.state_of([pieces[0][:-9]])
         self.assertNotEqual(checkpoint.state_of(pieces), checkpoint.state_of(pieces * 2))
         asyncio.run(one.take(pieces))
