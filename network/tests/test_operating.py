@@ -188,7 +188,7 @@ class Anew(LedgerCase):
         words = str(self.folder / "authority.crt"), str(known / "operator.crt"), str(known / "operator.key")
         thief = Recorders(self.local.told()["recorders"], *words)
         self.addAsyncCleanup(thief.aclose)
-        with self.assertRaisesRegex(Unreachable, "takes no such certificate"):
+        with self.assertRaisesRegex(Unreachable, "does not accept the certificate"):
             await thief.post(entry_key(OPERATOR, "share", "thief", 1), 5)
         await self.user(OPERATOR).post(entry_key(OPERATOR, "share", "printer", 2))
         async with self.following(self.user("publisher")) as view:
