@@ -51,8 +51,7 @@ class Resolver(aiohttp.ThreadedResolver):
 
 
 class News(NamedTuple):
-    """News from a recorder: entries, how far the ledger is heard with them, and where it ended when the stream
-    began."""
+    """News from a recorder: entries, how far the ledger is heard with them, and where it ended as the stream began."""
 
     chain: Chain
     entries: list[Entry]
@@ -251,8 +250,7 @@ class View:
             self.ledger.apply(entry)
 
     async def until(self, holds: Callable[[Ledger], object], seconds: Optional[float] = 30) -> bool:
-        """Waits until a condition holds; returns whether it did in time. Raises `Unreachable` if following has
-        ended."""
+        """Waits until a condition holds; returns whether it did in time. Raises `Unreachable` once following ended."""
         known = await self.waiting.until(lambda: self.lost or not self.state.entering and holds(self.ledger), seconds)
         if self.lost:
             raise Unreachable(f"the ledger is not followed any more: {self.lost}")
