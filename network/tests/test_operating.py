@@ -109,7 +109,7 @@ class Handover(LedgerCase):
             terminal = mock.Mock(isatty=lambda: True)
             with mock.patch("sys.stdin", terminal), mock.patch("builtins.input", lambda text, it=answer: it):
                 said = await self.hand_over(*NODES[:3], "node-4", yes=False)
-            self.assertIn("epoch 1 is not reached" if begins else "nothing was begun", said)
+            self.assertIn("epoch 1 has not begun after" if begins else "nothing was begun", said)
             self.assertEqual(await self.epoch_begins(), begins)
 
     async def finish(self, epoch: int) -> None:

@@ -1,5 +1,4 @@
-"""The state of a ledger in SQLite: its blobs by identifier, and how far it was heard; a restart continues from
-there."""
+"""The state of a ledger in SQLite: its blobs by identifier, and how far it was heard; a restart goes on from there."""
 import asyncio
 import collections
 import contextlib
@@ -80,9 +79,8 @@ class State(Database):
 
     @classmethod
     def open(cls, path: str, tail: int = 0, pages: int = PAGES) -> "State":
-        """Opens the state in a file. If another process has the file, returns a state without one, and if the file is
-        damaged or of another version, makes a new one. Raises `OSError` if it cannot be opened, such as on a full
-        disk."""
+        """Opens the state in a file; makes a new file if this one is damaged or of another version, and returns a state
+        without a file if another process has it. Raises `OSError` for other faults, such as a full disk."""
         try:
             return cls(path, tail, pages)
         except BlockingIOError:
