@@ -33,7 +33,7 @@ class Left(NodeCase):
         self.assertEqual((left, self.shard.settled(small)), ([1, 1], True))
         self.assertEqual({it.args[1].identifier for it in asked.call_args_list}, {small})
         said = [it.args[0] for it in node.port.tell.call_args_list]
-        self.assertEqual(said, ["a: the disk has no room for what is lacking (network/OPERATING.md)"] * 2)
+        self.assertEqual(said, ["a: the disk has no room for the missing blobs (network/OPERATING.md)"] * 2)
         with self.free(0.3):
             self.assertEqual(await recovery.settle(node, 0, [large, small]), 0)
 

@@ -101,7 +101,7 @@ class Node(View):
             wrong = {await self.wrong.get()}
             while not self.wrong.empty():
                 wrong.add(self.wrong.get_nowait())
-            async with passing(self.name, "what went wrong is recovered later"):  # `heal` finds it again
+            async with passing(self.name, "parts that went wrong are recovered later"):  # `heal` finds it again
                 for epoch in list(self.sides):
                     await settle(self, epoch, wrong)
 

@@ -199,7 +199,7 @@ class Shard:
     async def written(self, identifier: bytes, parts: Parts) -> AsyncIterator[Writing]:
         """Write long parts to files in a thread while the body runs. Leaving waits until all are written, as they are
         in memory until then, and removes files that got no row. It does not yield if they are written already: so the
-        caller hears what was staged before that can be lost."""
+        caller has its reply before what was staged for it can be lost."""
         long = {part: it for part, it in parts.items() if len(it) > SMALL}
 
         async def write() -> dict[int, str]:

@@ -141,8 +141,8 @@ class Store(Staged):
         file: Optional[str],
         old: bool = True,
     ) -> None:
-        """Stage a part that a shard is to reply it stored; its content is `payload` or in `file`. If `old`, it replaces
-        a part that is marked wrong, if there is one, and keeps the epoch from which on that was held."""
+        """Stage a part that the judge accepted; `file`, if any, has its content. If `old`, it may replace a part that
+        is marked wrong, and is then held from the same epoch on."""
         self.named += [file] if file else []
         wrong = "holding = ? AND identifier = ? AND part = ? AND wrong"
         since = self.drop(wrong, holding, identifier, part) if old else []
