@@ -125,7 +125,7 @@ class Storing(unittest.IsolatedAsyncioTestCase):
         await self.turns()
         self.answer(DONE, client.Clash(b"\x31\x01a\x01b"))
         first, clash, last = await asyncio.gather(*tasks)
-        self.assertEqual((first, last), ("", "it has clashed"))
+        self.assertEqual((first, last), ("", "the exchange ended with a clash"))
         self.assertIn("clash", clash)
 
     async def test_larger_ones_go_alone_and_at_once(self) -> None:

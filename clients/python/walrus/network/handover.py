@@ -49,8 +49,8 @@ async def survey(node: "Node") -> tuple[dict[int, dict[bytes, bool]], list[bytes
 
 async def heal(node: "Node") -> None:
     """Recover again and again what the shards lack, once the whole ledger is heard: at once the blobs for which the
-    node has vouched, others if the last round lacked them too; or all that are certified, if more are missing than are
-    listed. Then vote for blobs for which the node is late."""
+    node has vouched, others if they were missing in the last round too; or all that are certified, if more are missing
+    than are listed. Then vote on blobs on which the node has not voted yet."""
     await node.until(lambda _: node.caught_up, None)
     clock, pause, lost = asyncio.get_running_loop().time, 0.0, None  # type: Any, float, Optional[int]
     lacked, late = dict[int, dict[bytes, bool]](), set[bytes]()

@@ -102,7 +102,7 @@ async def by_lanes(node: "Node", lacks: Iterable[Lack], step: Callable[[Lack], A
     """Run a step for each blob, several at once. A step that fails is reported; a later round tries that blob again."""
 
     async def take(lack: Lack) -> None:
-        await asyncio.sleep(0)  # a turn for other tasks, as steps may never wait for anything
+        await asyncio.sleep(0)  # a turn for others, as possibly no step waits for anything
         try:
             async with passing(lack.shard.title, lack.identifier.hex()):
                 await step(lack)

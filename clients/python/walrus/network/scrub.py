@@ -72,8 +72,8 @@ class Scrub:
                 await self.scrub()
 
     async def scrub(self) -> None:
-        """Judge everything held from the position on. It moves past a blob only once that is judged: one whose check fails
-        is tried again, and is skipped only after so many failures that others would wait too long."""
+        """Judge everything held from the position on. It moves past a blob only once that is judged: a check that fails
+        is tried again, and a blob is skipped only after so many failures that others would wait too long."""
         figures, store = self.figures, self.node.store
         if not figures.running:
             self.figures = figures = Figures(True, begun=time.time(), ended=figures.ended)

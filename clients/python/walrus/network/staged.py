@@ -47,7 +47,7 @@ class Staged(Database):
             words = "end that one first, or name another database"
             raise OSError(f"another process runs over {self.path}: {words}") from None
         self.bring_in()
-        self.log = self.opened.enter_context(open(f"{self.path}-wal", "rb"))  # kept open: it reports each fault once
+        self.log = self.opened.enter_context(open(f"{self.path}-wal", "rb"))  # kept open: it hears of each fault once
         self.files.sync(self.path.parent)  # the folder of the log
         self.pool = concurrent.futures.ThreadPoolExecutor(THREADS, "disk")  # asyncio's may be busy resolving names
         self.syncer = threading.Thread(target=self.sync, name="sync", daemon=True)  # cheaper than a pool
