@@ -32,8 +32,8 @@ class Seat(client.Shard):
     def __init__(self, peers: "Peers", name: str, number: int, faults: int):
         super().__init__(number, faults, peers.seconds)
         self.peers, self.name, self.turns = peers, name, asyncio.Semaphore(LANES)
-        self.large = asyncio.Semaphore(2)  # a node keeps no more large requests
-        self.small = asyncio.Semaphore(1)  # one exchange with small requests at a time
+        self.large = asyncio.Semaphore(2)  # for large requests: a node keeps no more in memory
+        self.small = asyncio.Semaphore(1)  # for one exchange with small requests at a time
         self.waiting: Storing = {}  # small requests to send together
         self.going: Optional["asyncio.Task[None]"] = None  # sends these
         self.idle = list[Wire]()

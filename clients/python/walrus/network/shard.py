@@ -84,7 +84,7 @@ class Shard:
         return needed <= set(self.store.sizes(self.holding, self.epoch, identifier))
 
     def settled(self, identifier: bytes) -> bool:
-        return self.vouches(ACK, identifier) or self.vouches(ATTEST, identifier)
+        return self.vouches(ACK, identifier) or self.vouches(ATTEST, identifier)  # all that it must hold of a blob
 
     def lacks(self, identifier: bytes) -> list[int]:
         """Return the parts that the shard needs to have all of a blob; none if it has a proof of bad encoding."""

@@ -22,7 +22,7 @@ def systemctl(*words: str) -> str:
 
 
 def warnings(path: pathlib.Path, role: str, told: Mapping[str, Any]) -> list[str]:
-    """Return what the unit of a file of settings cannot do although they need it; nothing if there is no such unit."""
+    """Return what settings in a file need and the unit that runs them cannot do; nothing if there is no such unit."""
     if os.geteuid() or path.resolve().parent != ETC:
         return []
     unit = f"walrus-{role}.service" if role == "recorder" else f"walrus-{role}@{path.stem}.service"
