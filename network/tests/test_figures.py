@@ -1,4 +1,4 @@
-"""What nodes and gateways tell of themselves, and what of one that tells nothing."""
+"""The figures of nodes and gateways, and what a gateway reports of a node that returns none."""
 import asyncio
 import json
 import shutil
@@ -38,7 +38,7 @@ class Figures(GatewayCase):
             self.assertEqual({*groups["recovered"]}, {"epoch", "of", "of_bytes", "blobs", "bytes"})
 
     async def state(self, name: str, state: str, said: str = "") -> None:
-        """Waits until this is what the gateway tells of a node."""
+        """Wait until the gateway reports this of a node."""
         told: dict[str, Any] = {}
         for _ in range(100):
             nodes = json.loads((await self.curl("/v1/status"))[2])["nodes"]

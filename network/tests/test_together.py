@@ -1,11 +1,11 @@
-"""Small requests that wait for a shard go to it together, and small replies come back so."""
+"""Small requests that wait for a shard are sent together, and so are small replies."""
 import asyncio
 import types
 import unittest
 from typing import Any, Callable, Optional, Sequence
 from unittest import mock
 
-import harness  # noqa: F401  # which says where walrus is
+import harness  # noqa: F401  # so that walrus is found
 from walrus import client, connected, frames, kinds, port, wire
 from walrus.frames import answer
 from walrus.network.peers import LARGE, MANY, SMALL, TOGETHER, Seat
@@ -15,7 +15,7 @@ UNVERIFIED = "store at shard 2: unverified"
 
 
 class Storing(unittest.IsolatedAsyncioTestCase):
-    """A seat whose exchanges end when they are told to."""
+    """A seat whose exchanges end when the test says so."""
 
     async def asyncSetUp(self) -> None:
         asyncio.get_running_loop().set_debug(False)
@@ -36,7 +36,7 @@ class Storing(unittest.IsolatedAsyncioTestCase):
         return await self.due[-1]
 
     def answer(self, *ends: Any, fault: Optional[Exception] = None) -> None:
-        """Ends the exchange that is under way for longest, after these replies."""
+        """End the exchange that has been under way for longest, after these replies."""
         heard, due = self.heard.pop(0), self.due.pop(0)
         replies = [client.Reply({}, end) for end in ends]
         for reply in replies:
@@ -44,7 +44,7 @@ class Storing(unittest.IsolatedAsyncioTestCase):
         due.set_exception(fault) if fault else due.set_result(replies)
 
     async def store(self, *requests: bytes, registered: Optional[asyncio.Event] = None) -> "list[asyncio.Task[str]]":
-        """Has these blobs stored as far as that goes."""
+        """Begin to store these blobs, as far as that goes without replies."""
         known = registered or self.registered
         tasks = [asyncio.create_task(self.seat.store([it[:1], it[1:]], known)) for it in requests]
         await self.turns()
@@ -55,7 +55,7 @@ class Storing(unittest.IsolatedAsyncioTestCase):
             await asyncio.sleep(0)
 
     async def test_those_that_wait_go_in_one_exchange_and_each_has_its_own_reply(self) -> None:
-        [first] = await self.store(b"first", registered=asyncio.Event())  # ahead of its registration, as it is alone
+        [first] = await self.store(b"first", registered=asyncio.Event())  # before its registration, as it is alone
         others = await self.store(b"one", b"two", b"three")
         self.assertEqual(self.sent, [[b"first"]])
         self.answer(DONE)
@@ -89,7 +89,7 @@ class Storing(unittest.IsolatedAsyncioTestCase):
         early, late, last = await self.store(b"early", b"late", b"last")
         early.cancel()
         await self.turns()
-        self.assertEqual(len(self.seat.waiting), 2)  # nothing of it is in memory
+        self.assertEqual(len(self.seat.waiting), 2)  # nothing of the cancelled one is in memory
         self.answer(DONE)
         await self.turns()
         self.assertEqual(self.sent[1:], [[b"late", b"last"]])
@@ -156,7 +156,7 @@ class Storing(unittest.IsolatedAsyncioTestCase):
 
 
 class Replies(unittest.IsolatedAsyncioTestCase):
-    """A port whose replies rest on a disk."""
+    """A port whose replies wait for a disk."""
 
     async def asyncSetUp(self) -> None:
         asyncio.get_running_loop().set_debug(False)
@@ -190,7 +190,7 @@ class Replies(unittest.IsolatedAsyncioTestCase):
         return payload[1]
 
     async def until_kept(self, count: int) -> None:
-        """Waits until so many replies of 17 bytes are kept, and no other."""
+        """Wait until exactly `count` replies of 17 bytes are kept."""
         async with asyncio.timeout(60):
             while self.served.kept != 17 * count:
                 await asyncio.sleep(0.001)
@@ -202,7 +202,7 @@ class Replies(unittest.IsolatedAsyncioTestCase):
         self.assertEqual([await self.hear() for _ in range(5)], [1, 2, 3, 4, 5])
         await self.until_kept(0)
         [known] = self.served.connections
-        await asyncio.wait_for(known.replies.join(), 60)  # it is known that all of them are sent
+        await asyncio.wait_for(known.replies.join(), 60)  # all of them are marked as sent
         self.assertEqual((self.writes, known.kept), ([5], 0))
 
     async def test_a_long_one_goes_alone_and_all_in_their_order(self) -> None:
