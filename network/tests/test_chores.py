@@ -245,7 +245,7 @@ class Words(unittest.IsolatedAsyncioTestCase):
         self.ledger, self.name = Ledger(), (1).to_bytes(32, "big")
         self.enter(FOUNDED)
         self.enter(registration("x", 1))
-        self.posted, self.waits = mock.AsyncMock(side_effect=Refused("it was said before")), True
+        self.posted, self.waits = mock.AsyncMock(side_effect=Refused("the same was posted before")), True
         self.node: Any = types.SimpleNamespace(name="node-0", ledger=self.ledger, until=mock.AsyncMock())
         self.node.store = mock.Mock(losses=0, durable=mock.AsyncMock(return_value=True))
         self.node.port, self.node.sides = mock.Mock(give_way=lambda: self.waits), {}
@@ -275,7 +275,7 @@ class Words(unittest.IsolatedAsyncioTestCase):
 
         async def post(text: str) -> None:
             self.say("node-0")
-            raise Refused("it was said before")
+            raise Refused("the same was posted before")
 
         self.node.recorders.post = post
         self.assertEqual(await self.vouched(), [answer(13, 1)])

@@ -24,14 +24,14 @@ class Addresses(unittest.IsolatedAsyncioTestCase):
             self.assertEqual(Entry(1, entry_key("a", ADDRESS, *settings.reached(7))).values, wanted)
 
     async def test_an_address_that_is_refused_is_told_again_and_why_it_is_said_once(self) -> None:
-        post = mock.AsyncMock(side_effect=[Refused("a has its share"), Refused("a has its share"), 9])
+        post = mock.AsyncMock(side_effect=[Refused("a has used its share"), Refused("a has used its share"), 9])
         node, said = mock.Mock(recorders=mock.Mock(post=post)), io.StringIO()
         node.name = "a"
         with mock.patch.object(handover, "LATER", 0.0), contextlib.redirect_stderr(said):
             await handover.tell_address(node, "alpha", "31500")
         self.assertEqual([it.args for it in post.call_args_list], [("a/address/alpha/31500", None)] * 3)
         self.assertRegex(
-            said.getvalue(), r"\Aa: the ledger does not take the address alpha:31500, .* a has its share; .*\n\Z"
+            said.getvalue(), r"\Aa: the ledger does not take the address alpha:31500, .* a has used its share; .*\n\Z"
         )
 
 
