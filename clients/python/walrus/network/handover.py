@@ -51,7 +51,7 @@ async def survey(node: "Node") -> tuple[dict[int, dict[bytes, bool]], list[bytes
 async def heal(node: "Node") -> None:
     """Recover again and again what the shards lack, once the whole ledger is heard: at once the blobs for which the
     node has vouched, others if they were missing in the last round too; or all that are certified, if more are missing
-    than are listed. Then vote on what was recovered, and on what the node could have voted on in the last round."""
+    than are listed. Then vote on what was recovered, and on what it held without a vote in the last round too."""
     await node.until(lambda _: node.caught_up, None)
     clock, pause, lost = asyncio.get_running_loop().time, 0.0, None  # type: Any, float, Optional[int]
     lacked, late = dict[int, dict[bytes, bool]](), set[bytes]()

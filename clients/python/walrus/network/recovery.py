@@ -80,7 +80,7 @@ class Own(client.Shard):
 
     async def ask(self, *requests: client.Request) -> list[client.Reply]:
         [request] = map(bytes, requests)  # type: ignore[arg-type]
-        answering = asyncio.create_task(self.shard.answer(request))  # it ends even if nobody waits, as it has memory
+        answering = asyncio.create_task(self.shard.answer(request))  # it runs on if nobody waits, as it holds memory
         answering.add_done_callback(lambda it: it.cancelled() or it.exception())
         *found, end = await asyncio.shield(answering)
         kept = {kind: bytes(it) for it in found if (kind := self.shape.keeps(it, request, self.number))}
