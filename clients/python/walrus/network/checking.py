@@ -88,7 +88,7 @@ def faults_of_keys(told: dict[str, Any]) -> list[str]:
 
 
 def faults_of_https(told: dict[str, Any]) -> list[str]:
-    """Return the faults of the certificate for HTTPS and its key; a public authority may have signed it."""
+    """Return the faults of the certificate for HTTPS and its key. Its signature is not checked, as others sign it."""
     names = [told[it] for it in ("tls_certificate", "tls_key") if told.get(it)]
     if len(names) < 2:
         return ["tls_certificate and tls_key go together"] if names else []

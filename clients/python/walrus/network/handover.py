@@ -20,9 +20,10 @@ LATER = 60.0  # seconds until a refused address is posted again
 
 
 async def survey(node: "Node") -> tuple[dict[int, dict[bytes, bool]], list[bytes]]:
-    """Return by epoch the blobs that a shard lacks although the node has vouched for them, by a vote or by `ready`, or
-    although they are certified and the epoch is the present one, and whether it has vouched; and the blobs of the
-    writing epoch that all shards hold and on which it has not voted. At most MANY blobs of an epoch are in each."""
+    """Return by epoch the blobs that the node owes and a shard lacks, with whether the node has vouched for each; and
+    the blobs of the writing epoch that all shards hold and on which it has not voted. A node owes the blobs for which
+    it has vouched, by a vote or by `ready`, and in the present epoch all that are certified. At most MANY blobs of an
+    epoch are in each."""
     ledger, lacks, unsaid = node.ledger, dict[int, dict[bytes, bool]](), list[bytes]()
     for epoch, side in list(node.sides.items()):
         ready = epoch == ledger.epoch and not ledger.moving and set(side) <= ledger.ready
@@ -50,7 +51,7 @@ async def survey(node: "Node") -> tuple[dict[int, dict[bytes, bool]], list[bytes
 async def heal(node: "Node") -> None:
     """Recover again and again what the shards lack, once the whole ledger is heard: at once the blobs for which the
     node has vouched, others if they were missing in the last round too; or all that are certified, if more are missing
-    than are listed. Then vote on blobs on which the node has not voted yet."""
+    than are listed. Then vote on what was recovered, and on what it held without a vote in the last round too."""
     await node.until(lambda _: node.caught_up, None)
     clock, pause, lost = asyncio.get_running_loop().time, 0.0, None  # type: Any, float, Optional[int]
     lacked, late = dict[int, dict[bytes, bool]](), set[bytes]()
@@ -79,7 +80,7 @@ async def heal(node: "Node") -> None:
 
 def tell_lost(node: "Node", vouched: list[bytes], lost: Optional[int], urgent: bool, are_more: bool) -> int:
     """Report in the first round the blobs that the node has vouched for and its disk lacks, and later that these are
-    recovered. Return `lost` for the next round: how many there were among those listed, or 0 if none are left."""
+    recovered. Return `lost` for the next round: how many there were among those listed, or 0 once that is reported."""
     if lost is None and vouched:
         more = f" and {len(vouched) - TOLD} more" if len(vouched) > TOLD else ""
         names = " ".join(it.hex() for it in vouched[:TOLD])
@@ -127,7 +128,7 @@ async def tell_address(node: "Node", host: str, port: str) -> None:
             if str(fault) != said:
                 said = str(fault)
                 text = f"the ledger does not take the address {host}:{port}, so the one that it has stays: {said}"
-                print(f"{node.name}: {text}; it is told again later", file=sys.stderr, flush=True)
+                print(f"{node.name}: {text}; it is posted again later", file=sys.stderr, flush=True)
         await asyncio.sleep(LATER)
 
 

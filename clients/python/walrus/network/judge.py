@@ -1,4 +1,4 @@
-"""The judge that decides what shards reply: `walrus serve`, given what the disk has of one blob and one request.
+"""The judge that decides what shards reply: `walrus serve`, given a request and what ledger and disk have of its blob.
 
 It is one call of the library if that is installed, and otherwise a process that exits after its answer; neither keeps
 any state. Each call first reserves memory and a processor, so both are bounded whatever is held and asked."""

@@ -47,7 +47,7 @@ class Node(View):
 
     def __init__(self, settings: Settings):
         self.settings, self.name, authority = settings, settings.name, pathlib.Path(settings.authority)
-        spare = max(0, settings.memory - settings.kept - BARE)  # `Judges` sets malloc options: before any thread starts
+        spare = max(0, settings.memory - settings.kept - BARE)  # `Judges` next: its `mallopt` must precede any thread
         self.judges, self.repairs = Judges(settings.program, 2 * spare // 3), Room(spare // 3)
         self.store = Store(pathlib.Path(settings.database), settings.recorded, self.fail)
         recorders = Recorders(settings.recorders, settings.authority, settings.certificate, settings.key)
@@ -202,9 +202,9 @@ class Node(View):
         return [answer(DECLINED)]  # entries are posted to a recorder, not to a node
 
     async def vouch(self, kind: str, shard: Shard, request: bytes) -> list[bytes]:
-        """Post the node's vote on a blob, an acknowledgement or an attestation, and return the answer with the count
-        of shards that voted so. The judge must let this shard vote, and all other shards of the node must hold as much.
-        Nothing is posted if the ledger has the vote already, or certified the blob in an earlier epoch."""
+        """Post the node's vote on a blob, an acknowledgement or an attestation; return the answer: the number of
+        shards that voted so, or a refusal. The judge must let this shard vote, and all others of the node must hold as
+        much. Nothing is posted if the ledger has the vote already, or certified the blob in an earlier epoch."""
         ledger, identifier, losses = self.ledger, request[1:33], self.store.losses
         said = await shard.answer(request)
         if code_of(said) not in (COUNTED, COUNTED + 1):
@@ -224,7 +224,7 @@ class Node(View):
                 if not await self.until(lambda _: voted() or ledger.writing_epoch != shard.epoch, 20):
                     raise Unreachable("the ledger did not show the entry in time")
             except Unreachable as fault:
-                self.port.tell(f"{self.name}: a vote on a blob waits for the ledger: {fault}", "ledger")
+                self.port.tell(f"{self.name}: acknowledgement or attestation waits for the ledger: {fault}", "ledger")
                 return [answer(*client.LEDGER_AWAY)]
             except Refused:  # the vote is there already, or the ledger is ahead of what this node has heard
                 pass

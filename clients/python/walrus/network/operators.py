@@ -31,7 +31,7 @@ def add_words(add: Add) -> None:
     port = {"host": ("127.0.0.1", "the gateway's address"), "port": (GATEWAY_PORT, "the gateway's port")}
     hands = {"seconds": (600.0, "how long to wait until the epoch has begun"), "yes": (False, "begin without asking")}
     hands |= {"force": (False, "begin even if nodes of up to f shards do not answer")}
-    add("handover", "begin an epoch; NODE or NODE*SHARDS, or as now", "folder", "owners*", **hands, **heavy, **plain)
+    add("handover", "begin an epoch of NODE or NODE*SHARDS, or as now", "folder", "owners*", **hands, **heavy, **plain)
     add("begin", "begin the first epoch of a network that was founded", "folder", **plain)
     since = {"since": ("", "when this epoch began, such as 2026-11-29T12:00; now, if it is left out")}
     add("calendar", "plan how long an epoch is, such as 14d, or off", "folder", "length", **since, **plain)

@@ -80,7 +80,7 @@ class Own(client.Shard):
 
     async def ask(self, *requests: client.Request) -> list[client.Reply]:
         [request] = map(bytes, requests)  # type: ignore[arg-type]
-        answering = asyncio.create_task(self.shard.answer(request))  # it runs on if nobody waits, as it has memory
+        answering = asyncio.create_task(self.shard.answer(request))  # it runs on if nobody waits, as it holds memory
         answering.add_done_callback(lambda it: it.cancelled() or it.exception())
         *found, end = await asyncio.shield(answering)
         kept = {kind: bytes(it) for it in found if (kind := self.shape.keeps(it, request, self.number))}
@@ -117,7 +117,7 @@ async def by_lanes(node: "Node", lacks: Iterable[Lack], step: Callable[[Lack], A
 
 async def settle(node: "Node", epoch: int, owed: Collection[bytes] | Owed) -> int:
     """Recover what the node's shards of an epoch lack of the blobs owed, about MANY at a time in the order of their
-    names, all of which are counted first. Return how many are still missing."""
+    names. All that is missing is counted first. Return how many are still missing."""
     losses, left, progress = node.store.losses, 0, Progress(epoch)
     async for lacks in lacking(node, epoch, owed):
         if not lacks[0].shard.free_pages(LAST):  # it could not be kept, so the rest is not looked at

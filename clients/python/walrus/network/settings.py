@@ -25,7 +25,7 @@ class Settings:
     announced: str = ""  # HOST:PORT where others reach the node; if empty, host and port
     connections: int = 512
     kept: int = 33_554_432  # bytes of requests and replies that are kept in memory for all clients together
-    heal: float = 30.0  # seconds for which a shard may lack a certified blob before it recovers it
+    heal: float = 30.0  # seconds for which a shard may lack a certified blob before it is recovered from the others
     memory: int = 256_000_000  # bytes of memory for the whole node, whatever it holds and is asked
     reserve: float = 0.05  # fraction of the disk that is kept free
     scrub: float = 30.0  # days in which everything held is read and judged once; 0 for never

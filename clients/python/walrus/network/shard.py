@@ -84,10 +84,10 @@ class Shard:
         return needed <= set(self.store.sizes(self.holding, self.epoch, identifier))
 
     def settled(self, identifier: bytes) -> bool:
-        return self.vouches(ACK, identifier) or self.vouches(ATTEST, identifier)  # all that it must hold of a blob
+        return self.vouches(ACK, identifier) or self.vouches(ATTEST, identifier)  # by slivers, or by a proof
 
     def lacks(self, identifier: bytes) -> list[int]:
-        """Return the parts that the shard needs to have all of a blob; none if it has a proof of bad encoding."""
+        """Return the parts that the shard needs to be settled for a blob; none if it has a proof of bad encoding."""
         sizes = self.store.sizes(self.holding, self.epoch, identifier)
         return [part for part in (METADATA, PRIMARY, SECONDARY) if part not in sizes and PROOF not in sizes]
 
@@ -105,7 +105,7 @@ class Shard:
 
     async def judged(self, identifier: bytes, request: bytes, wanted: Collection[int], wrong: bool = False) -> Judged:
         """Return the judge's reply to a request given these parts, with those known to be wrong if `wrong`. The caller
-        has the lock of the blob."""
+        must hold the blob's lock (`Store.alone`)."""
         told = entries_of(self.ledger, self.epoch, identifier)
         held = self.store.parts(self.holding, self.epoch, identifier, wanted, wrong) if told else []
         return await self.ask([request], sum(it.size for it in held), self.over, request, told, held)
@@ -198,8 +198,8 @@ class Shard:
     @contextlib.asynccontextmanager
     async def written(self, identifier: bytes, parts: Parts) -> AsyncIterator[Writing]:
         """Write long parts to files in a thread while the body runs. Leaving waits until all are written, as they are
-        in memory until then, and removes files that got no row. It does not yield if they are written already: so the
-        caller has its reply before what was staged for it can be lost."""
+        in memory until then, and removes files that got no row. If they are written already, no other task runs in
+        between, so the caller has its reply before what was staged for it can be lost."""
         long = {part: it for part, it in parts.items() if len(it) > SMALL}
 
         async def write() -> dict[int, str]:

@@ -36,7 +36,7 @@ class Staged(Database):
         self.path, self.fail, self.losses = path.resolve(), fail, 0  # how often staged data was lost
         self.pending: Optional[Written] = None  # for what is staged now
         self.flushed: asyncio.TimerHandle  # which commits that
-        self.named, self.dropped = list[str](), list[str]()  # files that are staged to go in or out
+        self.named, self.dropped = list[str](), list[str]()  # files that staged rows name; that lose their row
         self.committed = list[tuple[Written, list[str]]]()  # to sync next; files to remove then
         self.last: Optional[Written] = None  # for the last commit
         self.syncing = list[tuple[Written, list[str]]]()  # what is being synced
@@ -47,7 +47,7 @@ class Staged(Database):
             words = "end that one first, or name another database"
             raise OSError(f"another process runs over {self.path}: {words}") from None
         self.bring_in()
-        self.log = self.opened.enter_context(open(f"{self.path}-wal", "rb"))  # kept open: it hears of each fault once
+        self.log = self.opened.enter_context(open(f"{self.path}-wal", "rb"))  # kept open: it reports each fault once
         self.files.sync(self.path.parent)  # the folder of the log
         self.pool = concurrent.futures.ThreadPoolExecutor(THREADS, "disk")  # asyncio's may be busy resolving names
         self.syncer = threading.Thread(target=self.sync, name="sync", daemon=True)  # cheaper than a pool
@@ -57,7 +57,7 @@ class Staged(Database):
         """Set up SQLite's log and the folder of files; any fault here closes the database again."""
         if self.base.execute("PRAGMA journal_mode").fetchone() != ("wal",):
             raise OSError(
-                errno.EINVAL, f"SQLite keeps no log on the disk of {self.path}: have the database on another one"
+                errno.EINVAL, f"SQLite keeps no log on the disk of {self.path}: put the database on another one"
             )
         self.base.execute("PRAGMA synchronous = NORMAL")
         self.base.text_factory = functools.partial(str, encoding="utf-8", errors="replace")
@@ -71,7 +71,7 @@ class Staged(Database):
         with extending():
             while self.base.execute("PRAGMA wal_checkpoint(TRUNCATE)").fetchone()[0]:
                 if not said:
-                    print(f"another process reads {self.path}: its end is waited for", file=sys.stderr, flush=True)
+                    print(f"another process reads {self.path}: waiting until it ends", file=sys.stderr, flush=True)
                 said = True
 
     def stage(self, words: str, *values: object) -> sqlite3.Cursor:

@@ -120,7 +120,8 @@ class Store(Staged):
         return dict(self.base.execute(words, (epoch, epoch, holding, identifier)).fetchall())
 
     async def settled(self, holding: int, epoch: int, first: bytes = b"", last: bytes = LAST) -> set[bytes]:
-        """Return the blobs from `first` to `last` of which a shard holds both slivers or a proof; reads in a thread."""
+        """Return the blobs from `first` to `last` for which a shard is settled: it holds the metadata, and both slivers
+        or a proof. Reads in a thread."""
         words = "SELECT identifier FROM held WHERE holding = ? AND identifier BETWEEN ? AND ?"
         words += f" AND {SEEN} AND NOT wrong GROUP BY identifier HAVING {SETTLED}"
 

@@ -57,7 +57,7 @@ def warnings(path: pathlib.Path, role: str, told: Mapping[str, Any]) -> list[str
 
 
 def shut_at(file: pathlib.Path, needed: int) -> Optional[pathlib.Path]:
-    """Return what only root may use of a file and the folders above it; `needed` is the mode bit for the file."""
+    """Return the folder above a file, or the file, that only root may use, or None; `needed` is the file's mode bit."""
     for part, bit in [*((it, 1) for it in reversed(file.parents)), (file, needed)]:
         try:
             found = part.stat()

@@ -53,7 +53,7 @@ class Whole:
 
     @classmethod
     def read(cls, shape: client.Shape, request: memoryview) -> Optional["Whole"]:
-        """Return the contents of a request whose memory `place` returned, or None if it has not this form. At most four
+        """Return the contents of a request whose memory `place` returned, or None if it is malformed. At most four
         envelopes are read, as anybody may send two million of them."""
         try:
             came = [part for _, part in itertools.islice(split(request[1:]), 4)]
