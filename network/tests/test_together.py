@@ -1,11 +1,11 @@
-"""Small requests that wait for the same shard are sent together, and small replies are returned together."""
+"""Small requests that wait for a shard go to it together, and small replies come back so."""
 import asyncio
 import types
 import unittest
 from typing import Any, Callable, Optional, Sequence
 from unittest import mock
 
-import harness  # noqa: F401  # sets the path to walrus
+import harness  # noqa: F401  # which says where walrus is
 from walrus import client, connected, frames, kinds, port, wire
 from walrus.frames import answer
 from walrus.network.peers import LARGE, MANY, SMALL, TOGETHER, Seat
@@ -36,7 +36,7 @@ class Storing(unittest.IsolatedAsyncioTestCase):
         return await self.due[-1]
 
     def answer(self, *ends: Any, fault: Optional[Exception] = None) -> None:
-        """End the oldest exchange that is under way, after these replies."""
+        """Ends the exchange that is under way for longest, after these replies."""
         heard, due = self.heard.pop(0), self.due.pop(0)
         replies = [client.Reply({}, end) for end in ends]
         for reply in replies:
@@ -44,7 +44,7 @@ class Storing(unittest.IsolatedAsyncioTestCase):
         due.set_exception(fault) if fault else due.set_result(replies)
 
     async def store(self, *requests: bytes, registered: Optional[asyncio.Event] = None) -> "list[asyncio.Task[str]]":
-        """Start to store these blobs, and return the tasks once they wait."""
+        """Has these blobs stored as far as that goes."""
         known = registered or self.registered
         tasks = [asyncio.create_task(self.seat.store([it[:1], it[1:]], known)) for it in requests]
         await self.turns()
@@ -55,7 +55,7 @@ class Storing(unittest.IsolatedAsyncioTestCase):
             await asyncio.sleep(0)
 
     async def test_those_that_wait_go_in_one_exchange_and_each_has_its_own_reply(self) -> None:
-        [first] = await self.store(b"first", registered=asyncio.Event())  # sent before it is registered, as it is alone
+        [first] = await self.store(b"first", registered=asyncio.Event())  # ahead of its registration, as it is alone
         others = await self.store(b"one", b"two", b"three")
         self.assertEqual(self.sent, [[b"first"]])
         self.answer(DONE)
@@ -89,7 +89,7 @@ class Storing(unittest.IsolatedAsyncioTestCase):
         early, late, last = await self.store(b"early", b"late", b"last")
         early.cancel()
         await self.turns()
-        self.assertEqual(len(self.seat.waiting), 2)  # nothing of the cancelled one is in memory
+        self.assertEqual(len(self.seat.waiting), 2)  # nothing of it is in memory
         self.answer(DONE)
         await self.turns()
         self.assertEqual(self.sent[1:], [[b"late", b"last"]])
@@ -156,7 +156,7 @@ class Storing(unittest.IsolatedAsyncioTestCase):
 
 
 class Replies(unittest.IsolatedAsyncioTestCase):
-    """A port whose replies depend on writes to a disk."""
+    """A port whose replies rest on a disk."""
 
     async def asyncSetUp(self) -> None:
         asyncio.get_running_loop().set_debug(False)
@@ -190,7 +190,7 @@ class Replies(unittest.IsolatedAsyncioTestCase):
         return payload[1]
 
     async def until_kept(self, count: int) -> None:
-        """Wait until exactly `count` replies of 17 bytes are kept."""
+        """Waits until so many replies of 17 bytes are kept, and no other."""
         async with asyncio.timeout(60):
             while self.served.kept != 17 * count:
                 await asyncio.sleep(0.001)
@@ -202,7 +202,7 @@ class Replies(unittest.IsolatedAsyncioTestCase):
         self.assertEqual([await self.hear() for _ in range(5)], [1, 2, 3, 4, 5])
         await self.until_kept(0)
         [known] = self.served.connections
-        await asyncio.wait_for(known.replies.join(), 60)  # all of them are marked as sent
+        await asyncio.wait_for(known.replies.join(), 60)  # it is known that all of them are sent
         self.assertEqual((self.writes, known.kept), ([5], 0))
 
     async def test_a_long_one_goes_alone_and_all_in_their_order(self) -> None:
