@@ -62,7 +62,7 @@ async def to_the_end(call: Callable[..., Result], *words: Any) -> Result:
 
 class Spool:
     """Data that arrives: the end of it is in memory, and all before that in a file without a name. Threads write and
-    read the file, so that a busy disk holds up nobody else. `reserve` is the part of the disk that stays free."""
+    read the file, so that a busy disk holds up nobody else. `reserve` is the fraction of the disk that stays free."""
 
     full = FULL  # the text of the error if less than that would stay free
 

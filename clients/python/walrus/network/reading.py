@@ -26,7 +26,7 @@ PART = 65_536  # bytes of a text that are sent at once
 BARE, READINGS = 73_400_320, 16  # bytes that an idle gateway takes; blobs that are read at once, if memory allows
 AHEAD = 5  # pieces of a file that are read at once for one client
 SILENCE, SUMS = 30.0, 65_536  # deadline in seconds to send a slice or receive anything; the most digests that are kept
-GRACE, LEAST = 60.0, 32_768  # seconds that a client may lag in all behind this rate, in bytes a second
+GRACE, LEAST = 60.0, 32_768  # seconds by which a client may lag, in all, behind LEAST bytes a second
 FOREVER = {"Cache-Control": "public, max-age=31536000, immutable", "Accept-Ranges": "bytes"}
 
 
