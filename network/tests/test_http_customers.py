@@ -194,7 +194,7 @@ class Customers(GuardCase):
         token = (await self.net(0, "token", "carol", "--rights", "read", "--bytes", "5", *folder)).split("\n")[0]
         self.assertGreater(len(token), 40)
         self.assertEqual((await self.ask("GET", "/v1/blobs", headers={"Authorization": f"Bearer {token}"}))[0], 200)
-        self.assertIn("who shows no token may not read", await self.net(1, "list"))
+        self.assertIn("a client without a token may not read", await self.net(1, "list"))
         self.assertEqual(await self.net(0, "list", token=token), "")
         told = json.loads((self.folder / "tokens.json").read_text())
         self.assertEqual(told["carol"] | {"sha256": ""}, {"sha256": "", "rights": ["read"], "bytes": 5})

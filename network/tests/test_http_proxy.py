@@ -221,7 +221,7 @@ class InABrowser(GuardCase):
             await browser.open(self.url + "/")
             self.assertTrue(await browser.until("document.querySelector('#token:not([hidden])')"))
             said = "document.getElementById('fault').textContent"
-            self.assertEqual(await browser.evaluate(said), "who shows no token may not read here")
+            self.assertEqual(await browser.evaluate(said), "a client without a token may not read here")
             await browser.evaluate(f"document.getElementById('token-text').value = '{alice}'")
             await browser.evaluate("document.querySelector('#token button').click()")
             self.assertTrue(await browser.until("document.getElementById('summary').textContent.startsWith('Epoch 0')"))

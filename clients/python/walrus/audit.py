@@ -71,7 +71,7 @@ async def audit(shard: client.Shard, identifier: bytes, beacon: bytes, count: in
 def read_words(words: Sequence[str] | None = None) -> argparse.Namespace:
     parser = argparse.ArgumentParser(description=__doc__, formatter_class=argparse.RawDescriptionHelpFormatter)
     parser.add_argument("--seconds", type=float, default=client.SECONDS, help=f"deadline for {BATCH} symbols")
-    parser.add_argument("--walrus", default="", help="program or library; default: WALRUS, or found")
+    parser.add_argument("--walrus", default="", help="program or library; default: that of WALRUS, or one found")
     parser.add_argument("identifier", metavar="ID", type=read_identifier)
     parser.add_argument("beacon", metavar="BEACON", type=read_identifier)
     parser.add_argument("count", metavar="COUNT", type=int)

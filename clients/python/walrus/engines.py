@@ -150,7 +150,7 @@ def use(engine: Optional[Engine]) -> None:
 
 
 def engine() -> Engine:
-    """Return the engine that makes the calls: the one given to `use`, or else the one that `find` found first."""
+    """Return the engine that makes the calls: the one given to `use`, or else what `find` found at the first call."""
     global chosen
     if chosen is None:
         chosen = find()

@@ -64,7 +64,7 @@ class Fair:
             raise
 
     def release(self) -> None:
-        """Gives a place back."""
+        """Give a place back."""
         self.free += 1
         self.serve()
 

@@ -49,7 +49,7 @@ def read_words(words: Sequence[str] | None = None) -> argparse.Namespace:
     parts.add_argument("--file", metavar="NAME", help="the one file of a manifest that goes to standard output")
     for command in (publish, fetch):
         command.add_argument("addresses", metavar="HOST:PORT", nargs="+", type=read_address)
-        command.add_argument("--walrus", default="", help="program or library; default: WALRUS, or found")
+        command.add_argument("--walrus", default="", help="program or library; default: that of WALRUS, or one found")
         command.add_argument("--seconds", type=float, default=client.SECONDS, help="a shard's deadline for a reply")
     given = parser.parse_args(words)
     given.faults, rest = divmod(len(given.addresses) - 1, 3)

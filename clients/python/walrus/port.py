@@ -110,7 +110,7 @@ class Port:
 
     def make_room(self, newcomer: Connection, among: dict[Connection, None]) -> None:
         """Add a connection. If there are too many, disconnect the one that waits longest: preferably one of an address
-        with many connections, and then preferably one that sent no request yet."""
+        with many connections, and then preferably one of which no request reached a shard."""
         if len(among) >= self.bounds.connections:
             counts, many = collections.Counter(it.whom for it in among), self.bounds.connections // MANY
             client = min(among, key=lambda it: (counts[it.whom] <= many, it.had_reply, it.since))

@@ -17,8 +17,8 @@ from .wire import LARGE, Data
 
 SECONDS = 10.0  # the deadline for requests that are sent together
 LONGEST_REPLY = 4  # most frames of a reply, with the answer at its end
-LONGEST_END = 133  # bytes of the longest end of a reply: a hash collision, with its two texts of 65
-AGAIN, PROVES = 0, -1  # keys beside kinds: a payload was skipped that may be asked for again, or as a proof
+LONGEST_END = 133  # bytes of the longest end of a reply: a clash, with its two texts of 65
+AGAIN, PROVES = 0, -1  # keys beside kinds: a payload was discarded that may be asked for again, or as a proof
 LEAST = 0.2  # least seconds until other shards are asked as well
 MOST = 1.0  # and at most
 USUAL = 0.2  # seconds that a shard is assumed to need at first

@@ -29,7 +29,7 @@ STEP, PARTS = 16_384, 1_024  # bytes parsed at once, except of a body of known l
 
 class Connection(web.RequestHandler):
     """A connection with a client. It counts towards the bounds of its server and its peer, and is closed if it exceeds
-    one. If aiohttp raises `ValueError`, as for some addresses, the request counts as malformed, too (400)."""
+    one. If aiohttp raises `ValueError`, as for some URLs, the request counts as malformed, too (400)."""
 
     first: asyncio.TimerHandle  # closes a connection that sends no request, or does not take the last reply
 

@@ -26,7 +26,7 @@ class Options(Exposure):
 
     memory: int = 268_435_456  # bytes of memory for the whole gateway
     room: int = 2_147_483_648  # bytes of disk for blobs that are read, sent or cached
-    reserve: float = 0.05  # part of the disk that uploads leave free
+    reserve: float = 0.05  # the fraction of the disk that uploads leave free
     most: int = 17_179_869_184  # the most bytes of a file
     uploads: int = 256  # uploads that are received at once
     turns: int = 2  # blobs that are encoded at once

@@ -27,7 +27,7 @@ FULL = (
 
 
 class Costs(Charge):
-    """What a folder costs of a token's share: its bytes as they arrive, in the end the bytes stored that are new."""
+    """What a folder costs of a token's share: its bytes as they arrive, and in the end only what is stored and new."""
 
     def __init__(self, charge: Charge, least: int = 1):
         super().__init__(charge.shares, charge.token, charge.epoch)

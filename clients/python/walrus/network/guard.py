@@ -117,7 +117,7 @@ class Guard:
             return
         holder = token or known.get(ANYONE)
         if holder is None or right not in holder.rights:
-            who, asked = (token.name, None) if token else ("who shows no token", ASKED)
+            who, asked = (token.name, None) if token else ("a client without a token", ASKED)
             raise Problem(403 if token else 401, f"{who} may not {right} here", asked)
         if token is None:
             request["token"] = holder

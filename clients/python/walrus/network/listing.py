@@ -17,7 +17,7 @@ from .turns import ASKING, Turns, owner_of
 
 PAGE, AT_ONCE = 1_000, 2  # blobs on a page of a list; lists that are made at once
 FEW = 50  # blobs that are put on a page before other tasks run
-SHORT, LONG = 1_024, 2  # requests for up to SHORT blobs are kept for longer in any number at once, larger ones LONG
+SHORT, LONG = 1_024, 2  # most blobs of a file or folder that is extended without a turn; turns for larger ones
 
 
 class Lister:
@@ -64,7 +64,7 @@ class Lister:
 
     async def extend(self, name: bytes, epochs: int, charge: Charge) -> dict[str, object]:
         """Keeps a file or all of a folder, with all its blobs, for `epochs` epochs from the writing one on, or longer
-        if it is already. Returns the JSON of the answer."""
+        if it already is. Returns the JSON of the answer."""
         self.reader.must_stand(name)
         try:
             return await self.keep(name, epochs, charge, SHORT)

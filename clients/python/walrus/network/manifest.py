@@ -225,7 +225,7 @@ def check(before: bytes, path: bytes, above: Iterable[bytes], found: "re.Match[b
     except UnicodeError:
         text = "\x7f"
     length, file, offset = int(found[3]), found[4], int(found[5] or 0)
-    is_beside = before.startswith(path[: path.rfind(b"/") + 1] or b"/")  # that path's folders were checked
+    is_beside = before.startswith(path[: path.rfind(b"/") + 1] or b"/")  # the previous path's folders were checked
     if path + b"\t" <= before + b"\t" and before:
         raise Wrong(f"{shown(path)} is out of order, or occurs twice")
     if CONTROLS.search(text) or len(path) > PATH:

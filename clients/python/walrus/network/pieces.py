@@ -62,7 +62,7 @@ async def to_the_end(call: Callable[..., Result], *words: Any) -> Result:
 
 class Spool:
     """Data that arrives: the end of it is in memory, and all before that in a file without a name. Threads write and
-    read the file, so that a busy disk holds up nobody else. `reserve` is the part of the disk that stays free."""
+    read the file, so that a busy disk holds up nobody else. `reserve` is the fraction of the disk that stays free."""
 
     full = FULL  # the text of the error if less than that would stay free
 
@@ -106,7 +106,7 @@ class Spool:
             return self.file
 
     async def whole(self) -> bytes:
-        """Returns all data that arrived; if part of it is in the file, as a map of that."""
+        """Returns all data that arrived, as a map of the file if a part is there. May be called only once."""
         if not self.is_away:
             return bytes(self.kept)
         kept, place = self.taken()
@@ -190,7 +190,8 @@ class Share:
 
 @dataclasses.dataclass(eq=False)
 class Wish:
-    """A request for `size` bytes of memory, and for `later` ones in the end; or for more, if its share has some."""
+    """A request for `size` bytes of memory, after which `later` more will be asked for. If its share already has some,
+    it is that second request."""
 
     size: int
     later: int

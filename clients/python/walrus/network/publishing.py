@@ -78,7 +78,7 @@ class Publisher:
                 async with pace.next():
                     part = await request.content.readany()
             except TimeoutError:
-                raise Problem(408, f"the upload was too slow: {size} bytes; send the file again") from None
+                raise Problem(408, f"the upload was too slow, and ended after {size} bytes: send the file again") from None
             except (OSError, web.PayloadAccessError) as fault:
                 raise Problem(400, f"the upload broke off after {size} bytes: {fault}") from None
             if not part:
@@ -114,8 +114,8 @@ class Publisher:
         return await self.upload(request, LONGEST_FORM, charge, store)
 
     def rights(self, request: web.Request, refusal: str) -> dict[str, Any]:
-        """Returns what the client may store: for how long, how large a file, and its share so far. `refusal` is why it
-        may store nothing, or empty."""
+        """Returns what the client may store: for how long, how large a file, and how much of its share is used.
+        `refusal` is why it may store nothing, or empty."""
         token, epoch = request["token"], self.network.ledger.writing_epoch
         told = {"name": token.name if token else None, "store": not refusal, "why": refusal}
         told |= {"epochs": self.longest(request), "most": min(self.options.most, LONGEST), "share": {}}
@@ -204,7 +204,7 @@ class Publisher:
 
 
 def failed_with(fault: Exception, stored: list[str], headers: Optional[dict[str, str]] = None) -> Problem:
-    """Returns the error for a file that was not stored. It lists the certified pieces, which are not stored again."""
+    """Returns the error for a file that was not stored. It lists certified pieces, which a retry does not store again."""
     problem = problem_of(fault)
     problem.headers = {**problem.headers, **(headers or {})}
     if stored:

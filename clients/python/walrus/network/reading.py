@@ -26,7 +26,7 @@ PART = 65_536  # bytes of a text that are sent at once
 BARE, READINGS = 73_400_320, 16  # bytes that an idle gateway takes; blobs that are read at once, if memory allows
 AHEAD = 5  # pieces of a file that are read at once for one client
 SILENCE, SUMS = 30.0, 65_536  # deadline in seconds to send a slice or receive anything; the most digests that are kept
-GRACE, LEAST = 60.0, 32_768  # seconds that a client may lag in all behind this rate, in bytes a second
+GRACE, LEAST = 60.0, 32_768  # seconds by which a client may lag, in all, behind LEAST bytes a second
 FOREVER = {"Cache-Control": "public, max-age=31536000, immutable", "Accept-Ranges": "bytes"}
 
 
@@ -62,7 +62,8 @@ class Reader:
 
     async def fetch(self, name: bytes, size: int) -> bytes:
         """Reads a blob, or a member of it, from the network; a large one is returned in a file without a name. It takes
-        memory for the largest blob; if that is short, nodes are asked for the length, as `size` is only a claim."""
+        memory for the largest blob. If that is short, nodes are asked for the length, unless `size` is the largest: a
+        smaller one is only a claim."""
         number = int.from_bytes(name[NAME:], "big") if name[NAME:] else None
         length: Optional[int] = client.LARGEST_BLOB
         if size != length and self.memory.is_short(sum(reading_needs(client.LARGEST_BLOB))):
@@ -255,7 +256,7 @@ def ending_early(request: web.Request) -> Iterator[None]:
 
 async def send_text(request: web.Request, text: bytes, headers: dict[str, str]) -> web.StreamResponse:
     """Sends a text that may be long, in parts. If it is in a file, or shared with others, a client that does not read
-    holds no more memory than the last parts."""
+    holds no more memory than the parts that were sent last."""
     response = web.StreamResponse(headers={**headers, "Content-Length": str(len(text))})
     await response.prepare(request)
     pace = Pace(request.get("flow"))

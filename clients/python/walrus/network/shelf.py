@@ -18,7 +18,7 @@ from .turns import ASKING, Turns
 MOST, ROOM, SLIGHT = 128, 67_108_864, 65_536  # most manifests kept; their bytes; bytes of one that memory holds
 WAITING = 8  # clients that wait for a manifest at once; one manifest at a time is read
 TOGETHER = 1_024  # blobs or files that are handled before other tasks run
-MOST_BLOBS = MOST_PIECES + 1  # most that are kept for longer: those of the longest file
+MOST_BLOBS = MOST_PIECES + 1  # most that one request keeps for longer: those of the longest file
 MANY = f"it has more than {MOST_BLOBS:,} blobs: keep parts of it for longer, such as each file of a folder"
 NO_FOLDER = "the blob is no folder: read it under /v1/blobs"
 LISTS = concurrent.futures.ThreadPoolExecutor(5, "lists")  # two lists of folders, two of blobs, and

@@ -10,7 +10,7 @@ Parts = AsyncIterator[bytes]
 
 
 class Source:
-    """A buffered stream with the methods that aiohttp's reader of forms needs (`read`, `readline` and the last two)."""
+    """A buffered stream with the methods that aiohttp's reader of forms needs (the last four)."""
 
     def __init__(self, stream: Parts):
         self.stream, self.kept, self.is_over = stream, bytearray(), False

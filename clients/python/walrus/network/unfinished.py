@@ -52,8 +52,8 @@ def touched(folder: str) -> float:
 
 
 class Upload:
-    """An upload as its folder has it; raises `Problem` if that is gone. `reserve` is the part of the disk that stays
-    free."""
+    """An upload as its folder has it; raises `Problem` if that is gone. `reserve` is the fraction of the disk that
+    stays free."""
 
     def __init__(self, folder: pathlib.Path, reserve: float = 0.0):
         self.reserve = reserve
