@@ -125,6 +125,16 @@ class Places(unittest.IsolatedAsyncioTestCase):
         self.assertIsNone(made.state.place_of(texts[-1]))
         made.state.close()
 
+    async def test_a_recorder_that_has_read_a_ledger_founds_no_other_one_in_an_empty_etcd(self) -> None:
+        made = Recorder(Memory())
+        self.addCleanup(made.state.close)
+        await made.catch_up()
+        self.assertTrue(await made.step(Batch(made.chain, [FOUNDED])))
+        made.etcd = empty = Memory()
+        with self.assertRaisesRegex(Broken, "etcd has no ledger any more, of which this recorder has read 1 entries"):
+            await made.catch_up()
+        self.assertEqual(await empty.head(), "")
+
     async def test_a_recorder_goes_on_in_the_midst_of_a_batch(self) -> None:
         """As who restores a ledger cuts it anew; where the batch has other entries there, it stops."""
         texts = [FOUNDED, *(registration("x", number) for number in range(5))]
