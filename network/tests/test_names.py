@@ -26,6 +26,14 @@ class Names(FoundingCase):
         await super().asyncSetUp()
         await self.found()
 
+    async def test_a_certificate_that_nobody_has_is_not_renewed_nor_is_another_one(self) -> None:
+        before = {path: path.read_bytes() for path in self.folder.rglob("*.crt")}
+        for named in (["nobody"], ["alpha", "gama", "nobody"]):
+            text = f"no certificate of {' or '.join(named[-2:])}: nothing was renewed$"
+            with self.assertRaisesRegex(Unfounded, text):
+                await self.says("renew", self.folder, *named)
+        self.assertEqual({path: path.read_bytes() for path in self.folder.rglob("*.crt")}, before)
+
     async def test_no_name_is_that_of_another_one_in_upper_case(self) -> None:
         """TLS takes one for the other: who is called Recorder could answer as a recorder does."""
         for words, why in (
