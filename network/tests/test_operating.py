@@ -1,4 +1,4 @@
-"""What a handover looks at before it begins, over a ledger with nodes that are none but in what they answer."""
+"""Commands of operators over a ledger, and what a handover checks first, with fake nodes that only answer."""
 import argparse
 import asyncio
 import contextlib
@@ -27,7 +27,7 @@ NODES = ["node-0", "node-1", "node-2", "node-3"]
 @unittest.skipUnless(os.access(harness.find_program(), os.X_OK), "the program is not built")
 class Handover(LedgerCase):
     async def node(self, name: str, certificate: str = "", host: str = "127.0.0.1") -> asyncio.AbstractServer:
-        """A node that says of every blob that it is unregistered, under a certificate of its name or of another."""
+        """Starts a fake node that answers that any blob is unregistered, with a certificate of this name or another."""
         recorders = await self.newcomer(name)
         context = ssl.create_default_context(ssl.Purpose.CLIENT_AUTH)
         path = self.folder / "users" / (certificate or name)
@@ -45,7 +45,7 @@ class Handover(LedgerCase):
         return server
 
     async def hand_over(self, *owners: str, **options: Any) -> str:
-        """What the command says before it begins, which it then does not."""
+        """Runs the command, which must fail, and returns its output and the failure's text."""
         said = io.StringIO()
         with contextlib.redirect_stdout(said), self.assertRaises(Failure) as caught:
             await operating.hand_over(self.words_of(owners, **options))
@@ -56,7 +56,7 @@ class Handover(LedgerCase):
         return argparse.Namespace(folder=self.folder, owners=owners, **{**words, **options})
 
     async def done(self, *owners: str, **options: Any) -> str:
-        """What the command says that does not fail."""
+        """Runs the command, which must succeed, and returns its output."""
         with contextlib.redirect_stdout(io.StringIO()) as said:
             self.assertEqual(await operating.hand_over(self.words_of(owners, **options)), 0)
         return said.getvalue()
@@ -73,7 +73,7 @@ class Handover(LedgerCase):
             "node-3 and nobody told", await self.hand_over("node-0", "node-1", "node-3", "nobody", force=True)
         )
         stray = await self.newcomer("node-3")
-        for host in ("a" * 100, "a..b", "::::"):  # of which some are no names to the system
+        for host in ("a" * 100, "a..b", "::::"):  # some of which the system does not resolve
             await stray.post(entry_key("node-3", ADDRESS, host, 1))
             self.assertRegex(await self.hand_over(*NODES), r"node-3 does not answer \(.*nothing was begun", host)
         await self.node("node-3", certificate="node-0")
@@ -121,14 +121,14 @@ class Handover(LedgerCase):
             self.assertEqual(await self.epoch_begins(), begins)
 
     async def finish(self, epoch: int, names: Sequence[str] = NODES[:3]) -> None:
-        """What nodes do for a handover that has begun."""
+        """Posts what nodes post for a handover that has begun."""
         async with self.following(self.user("publisher")) as view:
             self.assertTrue(await view.until(lambda it: it.moving))
         for text in [*(entry_key(it, "ready", epoch) for it in names), entry_key(names[0], "finish", epoch)]:
             await self.user(text.partition("/")[0]).post(text)
 
     async def test_no_epoch_begins_but_the_one_that_was_asked_about(self) -> None:
-        """Though another handover is done while this one waits for the nodes' answers."""
+        """Even if another handover is completed while this one waits for the nodes' answers."""
         for name in NODES:
             await self.newcomer(name)
         other = ["node-1*2", "node-2", "node-3"]
@@ -247,7 +247,7 @@ class Anew(LedgerCase):
     apart = True
 
     async def test_certificates_of_other_authorities_void_all_that_were_signed_before(self) -> None:
-        """What the manual says about an operator's key that may be known."""
+        """These are the manual's steps for an operator's key that may be known to others."""
         other, known = Local(self.folder / "other"), self.folder / "known"
         other.members, other.recorders = self.local.members, self.local.recorders
         other.folder.mkdir()

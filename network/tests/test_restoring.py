@@ -1,4 +1,4 @@
-"""etcd is restored from a snapshot older than what the network has heard, and the ledger is made whole again."""
+"""etcd is restored from a snapshot older than what the network has heard, and then the ledger is completed."""
 import asyncio
 import contextlib
 import io
@@ -25,7 +25,7 @@ NODES = FOUR.split(",")
 
 
 class Liar(State):
-    """A node that tells a tail of its own."""
+    """The state of a node that reports an invented tail."""
 
     def entries(self, after: int = -1, count: int = -1) -> Any:
         found = super().entries(after, count)
@@ -41,7 +41,7 @@ class Agreed(unittest.IsolatedAsyncioTestCase):
             (["abc", "ab", "ax", ""], "ab"),
             (["abc", "", "", ""], ""),
             (["xyz", "abc", "abcd", ""], "abc"),
-            (["ab", "ab", "xb", "xb"], "ab"),  # which no f nodes that lie can bring about
+            (["ab", "ab", "xb", "xb"], "ab"),  # which f lying nodes cannot bring about
             (["abc", "xbc"], ""),
         ):
             service.tails = {name: list(tail) for name, tail in zip(NODES, told)}
@@ -110,7 +110,7 @@ class Restored(LedgerCase):
             self.follow(name)
 
     def follow(self, name: str) -> None:
-        """Has a node follow, over what it has on its disk."""
+        """Has a node follow the ledger, continuing from its disk."""
         state = (Liar if name == "node-3" else State)(str(self.folder / f"{name}.ledger"), 2)
         self.views[name] = view = View(self.user(name), state)
         self.tasks[name] = task = asyncio.create_task(view.follow())
@@ -118,7 +118,7 @@ class Restored(LedgerCase):
         self.addCleanup(task.cancel)
 
     async def upload(self, first: int, last: int) -> None:
-        """Registers blobs, which three nodes acknowledge."""
+        """Registers blobs that three nodes then acknowledge."""
         texts = [registration("publisher", number) for number in range(first, last)]
         await asyncio.gather(*map(self.publisher.post, texts))
         for name in NODES[:3]:
@@ -135,7 +135,7 @@ class Restored(LedgerCase):
         self.assertEqual(ran.returncode, 0, ran.stderr)
 
     async def fall_back(self) -> None:
-        """Ends all recorders, and has etcd begin again with the snapshot."""
+        """Kills all recorders and etcd, and starts etcd again from the snapshot."""
         for name in ("recorder-0", "recorder-1", "etcd"):
             await self.local.end(name, kill=True)
         shutil.rmtree(self.folder / "etcd")

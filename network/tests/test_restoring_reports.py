@@ -1,4 +1,4 @@
-"""What nodes and others report to a restore: whether it is the same ledger, and whether all is there then."""
+"""What nodes and others report to a restore: whether they heard the same ledger, and whether it is complete then."""
 import asyncio
 import contextlib
 import io
@@ -22,7 +22,7 @@ class Reports(unittest.IsolatedAsyncioTestCase):
         asyncio.get_running_loop().set_debug(False)
 
     async def begun(self, *texts: str) -> tuple[Memory, Chain]:
-        """An etcd whose ledger has these entries, and how far it goes."""
+        """Returns an etcd whose ledger has these entries, and the ledger's chain."""
         memory = Memory()
         founder = Recorder(memory)
         self.addCleanup(founder.state.close)
@@ -31,7 +31,7 @@ class Reports(unittest.IsolatedAsyncioTestCase):
         return memory, founder.chain
 
     async def tell(self, service: Restoring, name: str, heard: Chain) -> None:
-        """Has somebody follow who has heard so much, and who tells as he is asked to."""
+        """Has a follower connect that has heard this much, and report what it is asked for."""
         request = mock.MagicMock(query={"after": str(heard.place)})
         request.__getitem__.return_value = name
         told = json.loads((await service.follow(request)).text or "")
@@ -41,7 +41,7 @@ class Reports(unittest.IsolatedAsyncioTestCase):
             await service.hear(request)
 
     async def test_who_has_heard_less_than_etcd_has_tells_whether_it_is_the_same(self) -> None:
-        """So a recorder is found that ran over the older ledger and appended more to it than nodes had heard."""
+        """This reveals a recorder that ran over the older ledger and appended more to it than nodes had heard."""
         memory, _ = await self.begun(FOUNDED, *(registration("stray", number) for number in range(9)))
         service = Restoring(Recorder(memory), mock.Mock())
         self.addCleanup(service.recorder.state.close)
@@ -60,7 +60,7 @@ class Reports(unittest.IsolatedAsyncioTestCase):
     async def restored(
         self, memory: Memory, names: Sequence[str], heard: Chain, short: Mapping[str, int]
     ) -> tuple[int, str]:
-        """The status of a restore to which these nodes report that they have heard so much, and what it says."""
+        """Runs a restore to which these nodes report that they have heard this much; returns its status and output."""
         memory.aclose, said = mock.AsyncMock(), io.StringIO()
 
         async def listen(service: Restoring) -> int:
@@ -81,7 +81,7 @@ class Reports(unittest.IsolatedAsyncioTestCase):
             self.assertIn("publisher heard more than the" if status else "publisher reported more", said)
 
     async def test_a_restore_fails_if_nodes_of_fewer_than_2f_1_shards_have_reported_all(self) -> None:
-        """The others may have more; and so say nodes that have not kept what comes next."""
+        """The others may have more; nodes that have not kept the next entries even say so."""
         memory, end = await self.begun(FOUNDED, registration("publisher", 1))
         for heard, status in ((4, 0), (3, 0), (2, 1), (0, 1)):
             found, said = await self.restored(memory, NODES[:heard], end, {})
