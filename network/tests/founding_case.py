@@ -1,4 +1,4 @@
-"""What the tests of founding share: a folder in which nothing is founded yet, and what founds a network there."""
+"""Shared by the tests of founding: an empty folder, and how to found a network there."""
 import asyncio
 import contextlib
 import io
@@ -25,7 +25,7 @@ class FoundingCase(unittest.IsolatedAsyncioTestCase):
         asyncio.get_running_loop().set_debug(False)
 
     async def says(self, *words: object, status: int = 0) -> str:
-        """What a command of walrus-net that needs no ledger says."""
+        """Runs a command of walrus-net that needs no ledger, and returns its output."""
         out = io.StringIO()
         with mock.patch("sys.argv", ["walrus-net", *map(str, words)]), contextlib.redirect_stdout(out):
             parsed = commands.parse()

@@ -1,4 +1,4 @@
-"""What the tests of the ledger share: etcd and two recorders in a folder, and users of them."""
+"""Shared by the tests of the ledger: etcd and two recorders in a folder, and clients of them."""
 import asyncio
 import atexit
 import collections
@@ -34,7 +34,7 @@ def registration(poster: str, number: int, until: int = 5) -> str:
 
 
 class Listed(Owed):
-    """All that is owed, from a list."""
+    """The blobs that are owed, from a list."""
 
     def __init__(self, names: list[bytes]):
         self.listed = names
@@ -48,7 +48,7 @@ class LedgerCase(unittest.IsolatedAsyncioTestCase):
     """A ledger that is founded, with two recorders, and no nodes. Recorders are processes if `apart`."""
 
     apart, members, patience = False, ["etcd"], 3600.0
-    made: dict[int, pathlib.Path] = {}  # folders of ledgers that are not born yet, by the number of members
+    made: dict[int, pathlib.Path] = {}  # folders of ledgers that do not exist yet, by the number of members
 
     async def asyncSetUp(self) -> None:
         asyncio.get_running_loop().set_debug(False)
@@ -69,7 +69,7 @@ class LedgerCase(unittest.IsolatedAsyncioTestCase):
         await self.operator.post(FOUNDED)
 
     async def copy_certificates(self) -> None:
-        """The folder of a ledger that is not born yet; keys and certificates are made once for all tests."""
+        """Fills the folder of a ledger that does not exist yet; keys and certificates are made once for all tests."""
         count = len(self.members)
         if count not in self.made:
             self.made[count] = pathlib.Path(tempfile.mkdtemp(prefix="walrus-ledger-"))
@@ -93,7 +93,7 @@ class LedgerCase(unittest.IsolatedAsyncioTestCase):
         await service.listen()
 
     def user(self, name: str, only: Optional[int] = None) -> Recorders:
-        """Someone who reaches the recorders, or one of them alone."""
+        """Returns a client of the recorders, or of one of them only, under this name."""
         own, places = self.folder / "users" / name, self.local.told()["recorders"]
         places = places if only is None else [places[only]]
         made = Recorders(places, str(self.folder / "authority.crt"), f"{own}.crt", f"{own}.key")
@@ -116,7 +116,7 @@ class LedgerCase(unittest.IsolatedAsyncioTestCase):
             await asyncio.gather(task, return_exceptions=True)
 
     def context(self, name: str) -> ssl.SSLContext:
-        """TLS as a user has it, whoever the server is."""
+        """Returns a user's TLS context that accepts any server."""
         context = ssl.create_default_context(cafile=str(self.folder / "authority.crt"))
         context.check_hostname, context.verify_mode = False, ssl.CERT_NONE
         if name:
@@ -124,7 +124,7 @@ class LedgerCase(unittest.IsolatedAsyncioTestCase):
         return context
 
     async def ask(self, name: str, method: str, path: str, recorder: int = 0, **words: Any) -> tuple[int, Any]:
-        """The status and the body of a request to a recorder, as anybody may make it."""
+        """Makes a request to a recorder, as anybody may; returns the status and the body of the answer."""
         url = f"https://{self.local.told()['recorders'][recorder]}{path}"
         async with aiohttp.ClientSession() as session:
             async with session.request(method, url, ssl=self.context(name), **words) as said:
@@ -132,7 +132,7 @@ class LedgerCase(unittest.IsolatedAsyncioTestCase):
 
 
 class Plain(Blobs):
-    """Blobs in memory alone, as their definitions say it: what a database of them is compared with."""
+    """Blobs in memory only, straight from the definitions: the database of blobs is compared with it."""
 
     def __init__(self) -> None:
         self.kept = {}
@@ -173,18 +173,18 @@ class Plain(Blobs):
 
 
 class Memory(Etcd):
-    """What etcd does, in memory. `plan` says which calls fail, or end who asks: before they are done, or behind it."""
+    """etcd in memory. By `plan` some calls fail, or end their caller, before or after they take effect."""
 
     def __init__(self) -> None:
-        self.kept, self.top, self.calls, self.ended = dict[int, Batch](), "", 0, 0  # the last one: of who was killed
+        self.kept, self.top, self.calls, self.ended = dict[int, Batch](), "", 0, 0  # `ended`: callers that were killed
         self.marked, self.pieces = list[Mark](), dict[tuple[int, int], bytes]()
         self.plan: dict[int, str] = {}
-        self.hear = list[Callable[[str], None]]()  # who watches the head
-        self.all = list[str]()  # what was ever appended
+        self.hear = list[Callable[[str], None]]()  # watchers of the head
+        self.all = list[str]()  # everything that was ever appended
         self.used = 0  # bytes, of its quota
 
     async def fails(self, when: str, call: int = 0) -> int:
-        """Does what the plan says of a call, the next one if it is not done yet; its number."""
+        """Carries out the plan for a call (a new one if no number is given); returns the call's number."""
         await asyncio.sleep(0)
         self.calls += not call
         call = call or self.calls
@@ -196,7 +196,7 @@ class Memory(Etcd):
             assert task, "whoever asks has a task"
             self.ended += 1
             task.cancel()
-            await asyncio.sleep(0)  # who asked gets no further
+            await asyncio.sleep(0)  # the caller gets no further
         return call
 
     async def head(self) -> str:
@@ -269,7 +269,7 @@ class Memory(Etcd):
         await asyncio.Event().wait()
 
     def entries(self) -> list[str]:
-        """All that was appended, in its order, and nothing left out."""
+        """Returns all entries in order; checks that no place is left out."""
         found: list[str] = []
         for place, batch in sorted(self.kept.items()):
             assert place == len(found) + 1, "a place is left out"

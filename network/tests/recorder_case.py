@@ -1,4 +1,4 @@
-"""What the tests of a recorder's turns share: recorders over an etcd in memory."""
+"""Shared by the tests of recorders: recorders over an etcd in memory."""
 import asyncio
 import unittest
 
@@ -15,7 +15,7 @@ class RecorderCase(unittest.IsolatedAsyncioTestCase):
         self.etcd = Memory()
 
     async def recorder(self, *texts: str) -> Recorder:
-        """A recorder that has heard all that etcd has, and then appends these, each in a batch of its own."""
+        """Returns a recorder that has read all of etcd's ledger and appended these entries, each in its own batch."""
         made = Recorder(self.etcd)
         self.addCleanup(made.state.close)
         await made.catch_up()

@@ -1,4 +1,4 @@
-"""What the tests of the ledger's rules share: random entries, turns of the epoch, and when two ledgers are the same."""
+"""Shared by the tests of the ledger's rules: random entries, epoch changes, and a comparison of two ledgers."""
 import random
 import unittest
 
@@ -11,7 +11,7 @@ COMMITTEES = [list("abcd"), list("abce"), list("aabb"), list("dcba"), list("abbb
 
 
 def random_entries(drawn: random.Random, owners: list[list[str]]) -> list[Entry]:
-    """Entries of a network of four shards, most of them of the epoch in which they come."""
+    """Returns random entries of a network of four shards, most of which name the epoch in which they come."""
     ids = [bytes([shard]).hex() * 32 for shard in range(4)]
     ledger, entries = Ledger(), []
     for revision in range(1, 400):
@@ -49,14 +49,14 @@ class RulesCase(unittest.TestCase):
     """Ledgers that are compared."""
 
     def turn(self, ledger: Ledger, epoch: int) -> None:
-        """Has the same committee go on in the next epoch."""
+        """Begins and finishes the next epoch with the same committee."""
         entries = [entry_key(OPERATOR, "begin", epoch, 1, "a,b,c,d"), *(entry_key(it, "ready", epoch) for it in "abc")]
         for key in [*entries, entry_key("a", "finish", epoch)]:
             word = ledger.apply(Entry(ledger.revision + 1, key))
         self.assertEqual(word, f"epoch {epoch}")
 
     def same(self, one: Ledger, other: Ledger) -> None:
-        """Both say the same of all that there is."""
+        """Checks that both ledgers answer every question in the same way."""
         names = ["faults", "epoch", "revision", "now", "next", "ready", "posted", "shares", "expelled", "addresses"]
         names += ["past", "concentrated", "calendar", "addressed"]
         self.assertEqual([getattr(one, it) for it in names], [getattr(other, it) for it in names])

@@ -1,5 +1,5 @@
-"""Those who write and take checkpoints, and give back what etcd has free, on bad days: all of them at the same moment,
-with a clock that was wrong, or without a descriptor."""
+"""Writing and loading checkpoints, and defragmenting etcd, on bad days: all recorders at the same moment, with a clock
+that was wrong, or without a free descriptor."""
 import asyncio
 import contextlib
 import io
@@ -23,7 +23,7 @@ from walrus.network.state import State
 
 class Defragmented(LedgerCase):
     async def test_one_member_of_etcd_at_a_time_gives_back_what_it_has_free(self) -> None:
-        """All recorders see at the same moment that there is much of it, as all members have the same keys."""
+        """All recorders notice free bytes at the same moment, as all members have the same keys."""
         one, other = (it.etcd for it in self.recorders)
         call, begun, goes_on = Etcd.call, list[Etcd](), asyncio.Event()
 
@@ -48,7 +48,7 @@ class Defragmented(LedgerCase):
             self.assertEqual(begun, [one, other])
             with self.assertRaises(Failed):
                 await one.defragment()
-            await other.defragment()  # the first one may be at it still
+            await other.defragment()  # the first member may still be defragmenting
             self.assertEqual(begun, [one, other, one])
 
     async def test_above_its_quota_etcd_gives_no_turns_and_gives_back_what_it_has_free(self) -> None:
@@ -65,13 +65,13 @@ class Defragmented(LedgerCase):
         self.assertEqual([it for it in begun if "kv" not in it], ["lease/grant", "maintenance/defragment"])
 
     async def test_no_recorder_puts_a_piece_in_place_of_another_one_s(self) -> None:
-        """Two of different versions may write a checkpoint of one place: one of both is not what its mark says then."""
+        """Recorders of two versions may write checkpoints of one place: then the pieces of one do not fit its mark."""
         one, other = (it.etcd for it in self.recorders)
         text = b"a line of many\n" * 1_000
         piece = zlib.compress(text, 1)
         for etcd in (one, other):
             await etcd.put_piece(5, 0, piece)
-        await other.put_piece(5, 0, zlib.compress(text, 9))  # the same as another zlib packs it
+        await other.put_piece(5, 0, zlib.compress(text, 9))  # the same text, as another zlib compresses it
         for another in (zlib.compress(b"another"), b"packed by nothing that is known"):
             with self.assertRaisesRegex(Failed, "a different checkpoint of this place"):
                 await other.put_piece(5, 0, another)
@@ -91,7 +91,7 @@ class Checkpoints(unittest.IsolatedAsyncioTestCase):
         self.assertTrue(await self.recorder.step(Batch(self.recorder.chain, texts)))
 
     async def test_a_checkpoint_whose_writer_had_a_clock_far_ahead_is_over_in_time(self) -> None:
-        """No node is ever past it."""
+        """No node ever posts that it is past its epoch."""
         keeper, later = Keeper(self.recorder, 0.2), time.time() + 10 * 365 * 86_400
         with mock.patch.object(time, "time", lambda: later):
             await keeper.write(None)

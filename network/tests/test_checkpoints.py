@@ -1,4 +1,4 @@
-"""What is over goes from the ledger, and newcomers and those who were away have the same ledger all the same."""
+"""Old entries are dropped from the ledger, and newcomers and followers that were away still get the same ledger."""
 import asyncio
 import base64
 import contextlib
@@ -21,13 +21,13 @@ NODES = FOUR.split(",")
 
 
 def turn(epoch: int) -> list[str]:
-    """What is posted to come to an epoch, with the same committee."""
+    """Returns the entries that lead to an epoch, with the same committee."""
     begin = entry_key(OPERATOR, "begin", epoch, 1, FOUR)
     return [begin, *(entry_key(it, "ready", epoch) for it in NODES[:3]), entry_key("node-0", "finish", epoch)]
 
 
 class KeptCase(LedgerCase):
-    """Two recorders over etcd, which keep what is over for as long as `patience` says."""
+    """Two recorders over etcd, which drop old entries after `patience` seconds at the latest."""
 
     async def asyncSetUp(self) -> None:
         await super().asyncSetUp()
@@ -45,7 +45,7 @@ class KeptCase(LedgerCase):
         return [base64.b64decode(it["key"]).decode() for it in found]
 
     async def dropped(self, epoch: int, seconds: float = 20) -> bool:
-        """Waits until what was before the checkpoint of an epoch is dropped; whether it was."""
+        """Waits until the entries before the checkpoint of an epoch are dropped; returns whether they were."""
         with contextlib.suppress(TimeoutError):
             async with asyncio.timeout(seconds):
                 while True:
@@ -58,7 +58,7 @@ class KeptCase(LedgerCase):
         return False
 
     async def same(self, one: View, other: View) -> None:
-        """Both have heard all, and would write the same checkpoint."""
+        """Checks that both have heard everything, and would write the same checkpoint."""
         last = await self.publisher.post(registration("publisher", 999))
         for view in (one, other):
             self.assertTrue(await view.until(lambda _: (view.chain or Chain(0, b"")).place >= last))
@@ -89,7 +89,7 @@ class Kept(KeptCase):
             async with self.following(self.user("publisher")) as late:
                 self.assertEqual(late.state.entries(), [])
                 await self.same(early, late)
-            away = View(self.user("publisher"))  # who was away for long
+            away = View(self.user("publisher"))  # a follower that was away for long
             away.state.identity, away.state.chain = early.state.identity, before
             task = asyncio.create_task(away.follow())
             self.assertTrue(await away.until(lambda _: away.caught_up))
@@ -106,7 +106,7 @@ class Kept(KeptCase):
         await fresh.catch_up()
         self.assertEqual(fresh.chain, self.recorders[0].chain)
         self.assertEqual([*fresh.state.written()], [*self.recorders[0].state.written()])
-        for number in (2, 3):  # a second and a third time, and what the checkpoints before had goes too
+        for number in (2, 3):  # a second and a third time: earlier checkpoints are dropped too
             await self.say(*turn(number), *(entry_key(it, "past", number) for it in NODES))
             self.assertTrue(await self.dropped(number))
 
@@ -137,7 +137,7 @@ class Kept(KeptCase):
         await self.say(*turn(1), *turn(2), *(entry_key(it, "past", 2) for it in NODES))
         self.assertTrue(await self.dropped(2))
         size = before
-        for number in range(4_000, 4_020):  # etcd counts what is free when it writes again, and compacts meanwhile
+        for number in range(4_000, 4_020):  # etcd, which compacts meanwhile, counts its free bytes when it writes again
             await self.publisher.post(registration("publisher", number))
             for _ in range(40):
                 size, _ = await self.recorders[0].etcd.sizes()
@@ -163,7 +163,7 @@ class Impatient(KeptCase):
 
 class Short(unittest.IsolatedAsyncioTestCase):
     async def test_where_epochs_are_short_nobody_delays_for_ever_what_is_dropped(self) -> None:
-        """One node is never past an epoch, and each epoch takes a third of the patience."""
+        """One node never posts that it is past an epoch, and each epoch lasts for a third of the patience."""
         memory, now = Memory(), [0.0]
         made = recorder.Recorder(memory)
         self.addCleanup(made.state.close)

@@ -1,4 +1,4 @@
-"""Recorders and followers that write or take a checkpoint, and what others have of them meanwhile."""
+"""Recorders and followers that write or load a checkpoint, and what they answer meanwhile."""
 import asyncio
 import contextlib
 import io
@@ -57,7 +57,7 @@ class Taking(RecorderCase):
         self.assertNotEqual(ahead.ledger.nodes, [])
 
     async def test_others_are_answered_while_a_checkpoint_is_written_and_while_it_is_taken(self) -> None:
-        """They have all of it or nothing. Each row waits for a turn of the loop."""
+        """They see all of it or nothing. Each row waits for a turn of the event loop."""
         texts = [FOUNDED, registration("x", 1), *turn(1), *(registration("y", number) for number in range(2, 40))]
         with tempfile.TemporaryDirectory() as folder:
             late, ahead = (Recorder(self.etcd, State(f"{folder}/{name}")) for name in ("late", "ahead"))
@@ -88,7 +88,7 @@ class Taking(RecorderCase):
             with mock.patch.multiple(state.checkpoint, written=waiting(written), read=waiting(read)):
                 task = asyncio.create_task(others())
                 await Keeper(ahead, 0.0).write(None)
-                self.assertGreaterEqual(len(turns), 39)  # a row for each blob, and some for what there is beside them
+                self.assertGreaterEqual(len(turns), 39)  # a row for each blob, and some for the rest of the state
                 self.assertEqual(({*turns}, blobs), ({(2, 0, True)}, {1}))
                 [mark] = self.etcd.marked
                 turns.clear()
@@ -104,7 +104,7 @@ class Taking(RecorderCase):
             self.assertEqual([*late.state.written()], [*ahead.state.written()])
 
     async def test_who_asks_while_a_checkpoint_is_taken_has_what_was_saved_until_all_of_it_is_there(self) -> None:
-        """Also once the thread has committed, and where the disk did not take what was heard before."""
+        """The same holds once the thread has committed, and if the disk did not take what was heard before."""
         ahead, connect = (
             await self.recorder(FOUNDED, *turn(1), *(registration("y", it) for it in range(9))),
             sqlite3.connect,
@@ -202,7 +202,7 @@ class Taking(RecorderCase):
                     self.assertEqual(([*made.written()], len(made.ledger.blobs)), (pieces, 2))
 
     async def test_a_checkpoint_that_a_full_disk_does_not_take_is_taken_once_it_does(self) -> None:
-        """Else a node or a recorder ends by it, or forgets what the disk did not take before."""
+        """Otherwise a node or a recorder would end, or lose what the disk did not take before."""
         heard = [FOUNDED, registration("x", 1), registration("y", 2)]
         ahead = await self.recorder(*heard)
         self.assertTrue(await ahead.step(Batch(ahead.chain, [registration("y", it) for it in range(3, 500)])))

@@ -1,4 +1,4 @@
-"""Files of a network's machines: what is founded, added, renewed and removed."""
+"""The files of a network's machines: founding, adding, renewing and removing."""
 import contextlib
 import datetime
 import errno
@@ -58,7 +58,7 @@ class Found(FoundingCase):
                 self.assertEqual(self.is_taken(own / file, self.folder / f"{by}.crt", name), known)
 
     def is_taken(self, own: pathlib.Path, authority: pathlib.Path, name: str) -> bool:
-        """Whether a client that knows an authority takes a server with a certificate for this name."""
+        """Whether a client that trusts an authority accepts a server with a certificate for this name."""
         server, client = ssl.create_default_context(ssl.Purpose.CLIENT_AUTH), ssl.create_default_context()
         server.load_cert_chain(f"{own}.crt", f"{own}.key")
         client.load_verify_locations(authority)
@@ -180,7 +180,7 @@ class Changed(FoundingCase):
             await self.says("add", self.folder, "delta=other:31500")
         await self.says("remove", self.folder, "gamma", "gate", "printer")
         self.assertFalse([*self.folder.rglob("gamma.*"), *self.folder.rglob("gate.*"), *self.folder.rglob("printer*")])
-        self.assertTrue((self.folder / "hosts" / "gamma" / "etcd.key").exists())  # it is of the ledger still
+        self.assertTrue((self.folder / "hosts" / "gamma" / "etcd.key").exists())  # gamma still belongs to the ledger
         self.assertFalse((self.folder / "hosts" / "office").exists())
         with self.assertRaisesRegex(Unfounded, "gamma is no node"):
             await self.says("remove", self.folder, "gamma")
@@ -226,7 +226,7 @@ class Changed(FoundingCase):
         self.assertIn("no certificate expires so soon", await self.says("renew", self.folder))
 
     async def test_a_renewal_that_was_interrupted_is_completed_by_the_next_one(self) -> None:
-        """It ended between two copies of the authority, of which a full disk left one empty."""
+        """The first one ended between two copies of the authority, and a full disk left one of them empty."""
         await self.found("--days", 20)
         authority = self.folder / "authority.crt"
         late, empty = self.folder / "hosts/gamma/authority.crt", self.folder / "users/operator/authority.crt"

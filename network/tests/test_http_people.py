@@ -62,7 +62,7 @@ class People(UpCase):
         self.assertIn(f"{name} until epoch 7, ", await self.words("extend", name, "--epochs", 7))
         self.assertIn(f"{name} until epoch 7, ", await self.words("expiring", "--within", 7))
         self.assertIn("publisher may register 9 blobs", await self.words("share", folder, "publisher", "--blobs", 9))
-        self.assertIn("other is expelled, from place", await self.words("expel", folder, "other"))
+        self.assertIn("other is expelled, from place", await self.words("expel", folder, "other", "--yes"))
         self.assertIn("epoch 1 has begun", await self.words("handover", folder, "--yes"))
         self.assertRegex((await self.words("status")).splitlines()[0], r"; the ledger is at place \d+$")
         told = await self.words("completion")

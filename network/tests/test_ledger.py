@@ -1,4 +1,4 @@
-"""The rules of the ledger, against the lines that the proved core gives of the same entries."""
+"""The rules of the ledger, compared with the lines that the proved core prints for the same entries."""
 import asyncio
 import json
 import os

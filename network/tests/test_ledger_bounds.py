@@ -1,4 +1,4 @@
-"""What one name may leave in the ledger, at all who follow it, is bounded, whatever it says and keeps to itself."""
+"""What one name can leave in the ledger, and at everyone who follows it, is bounded, whatever it posts or withholds."""
 import asyncio
 import random
 import types
@@ -23,18 +23,18 @@ NAMES = [bytes([number]) * 32 for number in range(3)]
 
 
 def turn(epoch: int) -> list[str]:
-    """What is posted to come to an epoch, with the same committee."""
+    """Returns the entries that lead to an epoch, with the same committee."""
     begin = entry_key(OPERATOR, "begin", epoch, 1, FOUR)
     return [begin, *(entry_key(it, "ready", epoch) for it in NODES[:3]), entry_key("node-0", "finish", epoch)]
 
 
 def entered(ledger: Ledger, *texts: str) -> list[object]:
-    """The lines of these entries, which come next."""
+    """Applies these entries, which come next, and returns their outcomes."""
     return [ledger.apply(Entry(ledger.revision + 1, text)) for text in texts]
 
 
 def uncounted(votes: Mapping[int, frozenset[int]], first: object) -> dict[int, frozenset[int]]:
-    """All votes, as former versions kept them."""
+    """Returns all votes, as earlier versions kept them."""
     return dict(votes)
 
 
@@ -60,7 +60,7 @@ class Waits(unittest.IsolatedAsyncioTestCase):
             self.assertIsInstance((await said)[0], int)
 
     async def dropped(self) -> bool:
-        """Whether what was before it is dropped, once the keeper has looked again."""
+        """Has the keeper look again; returns whether the entries before the checkpoint are dropped then."""
         for _ in range(2):
             await self.keeper.look()
         [mark] = {it.place for it in self.memory.marked}
@@ -88,7 +88,7 @@ class Addresses(unittest.TestCase):
         self.addCleanup(kept.close)
         texts = [f"x/address/host-{number}/9" for number in range(ADDRESSES + 1)]
         self.assertEqual({*entered(kept.ledger, FOUNDED, *texts[:-1])}, {"founded", "entered"})
-        other = State()  # who takes a checkpoint counts on
+        other = State()  # a follower that loads a checkpoint continues the count
         self.addCleanup(other.close)
         kept.save(Chain(kept.ledger.revision, bytes(32)))
         asyncio.run(other.take([zlib.compress(it) for it in kept.written()]))
@@ -114,7 +114,7 @@ class Votes(unittest.TestCase):
         self.assertEqual(ledger.certificate((1).to_bytes(32, "big")), (0, 4))
 
     def history(self, drawn: random.Random) -> list[str]:
-        """Entries of some thirty epochs, each of which may be behind a move that lasts."""
+        """Returns random entries of some thirty epochs, with epoch changes that may take long."""
         texts = [FOUNDED, *(f"x/register/{it.hex()}/{drawn.randrange(3, 50)}" for it in NAMES)]
         for epoch in range(30):
             for word in turn(epoch + 1):
@@ -126,7 +126,7 @@ class Votes(unittest.TestCase):
         return texts
 
     def asked(self, ledger: Ledger) -> list[object]:
-        """All that the rules, nodes and pages ask of votes."""
+        """Returns everything that the rules, nodes and pages ask about votes."""
         epochs, found = [ledger.epoch, ledger.epoch + 1], list[object]([[*ledger.must_hold()], ledger.blobs.counts()])
         for it in NAMES:
             found += [ledger.certificate(it), ledger.invalid(it), ledger.home_epoch(it)]
@@ -137,7 +137,7 @@ class Votes(unittest.TestCase):
         return found
 
     def test_without_votes_that_count_no_more_all_is_as_with_them(self) -> None:
-        """Whoever takes a checkpoint of a former version, which has them, would write the same as all others."""
+        """A follower that loads a checkpoint of an earlier version, which has them, writes the same as the others."""
         fewer = 0
         for seed in range(4):
             lean, whole, chain = State(), State(), Chain(0, bytes(32))

@@ -1,4 +1,4 @@
-"""What one participant may try against the ledger's machines, and what a recorder meets that others have cut anew."""
+"""What one participant may try against the ledger's machines, and batches that a restore cut in other places."""
 import asyncio
 import contextlib
 import io
@@ -25,7 +25,7 @@ from walrus.network.recorder import Broken, Recorder
 
 
 class Waiting(unittest.IsolatedAsyncioTestCase):
-    """Posters of a recorder whose etcd does nothing that it is asked."""
+    """Posters to a recorder whose etcd does nothing."""
 
     async def asyncSetUp(self) -> None:
         asyncio.get_running_loop().set_debug(False)
@@ -39,7 +39,7 @@ class Waiting(unittest.IsolatedAsyncioTestCase):
         self.etcd.plan = {call: "before" for call in range(self.etcd.calls + 1, self.etcd.calls + 100_000)}
 
     async def test_who_posted_and_is_gone_leaves_nothing_behind(self) -> None:
-        """Else whoever posts again and again takes more and more memory for as long as etcd is away or full."""
+        """Otherwise a client that posts again and again would take ever more memory while etcd is away or full."""
         for number in range(5):
             with self.assertRaises(TimeoutError):
                 async with asyncio.timeout(0.05):
@@ -55,14 +55,14 @@ class Waiting(unittest.IsolatedAsyncioTestCase):
         flood = self.made.post(many)
         await asyncio.sleep(0)
         places = await asyncio.gather(*(self.made.post([registration(name, 1)]) for name in "yz"))
-        ahead = 1 + recorder.TOGETHER  # those before, and the batch that was under way; then one entry of each poster
+        ahead = 1 + recorder.TOGETHER  # earlier entries and the batch under way; then one entry of each poster
         self.assertLessEqual(max(place for [place] in places), ahead + 1 + len(places))
         self.assertFalse(flood.done())
         self.assertEqual(sorted(await flood), [it for it in range(2, 8_004) if [it] not in places])
         self.assertEqual([it for it in self.etcd.all if it.startswith("x/")], many)  # in their order
 
     async def test_what_has_no_form_waits_for_nothing(self) -> None:
-        """Else it would stand before what others post, a batch's size of it for each call of etcd."""
+        """Otherwise it would go before the entries of others, as much as fits a batch for each call of etcd."""
         texts = ["x", "x/" + "y" * 1_000_000, "x/ready/01", "x/register/\ud800/1", ""]
         async with asyncio.timeout(120):
             said = await self.made.post(texts)
@@ -72,7 +72,7 @@ class Waiting(unittest.IsolatedAsyncioTestCase):
 
 
 class Bodies(unittest.IsolatedAsyncioTestCase):
-    """Bodies at a recorder, of which it does nothing else while it takes one."""
+    """Bodies at a recorder, which does nothing else while it checks one."""
 
     async def asyncSetUp(self) -> None:
         asyncio.get_running_loop().set_debug(False)
@@ -125,8 +125,18 @@ class Places(unittest.IsolatedAsyncioTestCase):
         self.assertIsNone(made.state.place_of(texts[-1]))
         made.state.close()
 
+    async def test_a_recorder_that_has_read_a_ledger_founds_no_other_one_in_an_empty_etcd(self) -> None:
+        made = Recorder(Memory())
+        self.addCleanup(made.state.close)
+        await made.catch_up()
+        self.assertTrue(await made.step(Batch(made.chain, [FOUNDED])))
+        made.etcd = empty = Memory()
+        with self.assertRaisesRegex(Broken, "etcd has no ledger any more, of which this recorder has read 1 entries"):
+            await made.catch_up()
+        self.assertEqual(await empty.head(), "")
+
     async def test_a_recorder_goes_on_in_the_midst_of_a_batch(self) -> None:
-        """As who restores a ledger cuts it anew; where the batch has other entries there, it stops."""
+        """A restore cuts batches in other places. If the batch has other entries there, the recorder stops."""
         texts = [FOUNDED, *(registration("x", number) for number in range(5))]
         other = [*texts[:3], registration("y", 9), *texts[4:]]
         for cut, entries, whole in (([1, 3, 6], texts, True), ([6], texts, True), ([2, 6], other, False)):
@@ -151,7 +161,7 @@ class Places(unittest.IsolatedAsyncioTestCase):
 
 
 class Addresses(unittest.IsolatedAsyncioTestCase):
-    """What a node may tell as its address, against who reaches the nodes."""
+    """Addresses that a node may post against everyone who connects to nodes."""
 
     async def asyncSetUp(self) -> None:
         asyncio.get_running_loop().set_debug(False)
@@ -184,7 +194,7 @@ class Addresses(unittest.IsolatedAsyncioTestCase):
             await peers.close()
 
     async def test_a_name_that_is_looked_up_for_long_is_its_node_s_alone(self) -> None:
-        """Else the names of all others wait for it, those of recorders too, as they share a few threads."""
+        """Otherwise look-ups of all other names would wait for it, also of recorders, as they share a few threads."""
         with tempfile.TemporaryDirectory() as folder:
             certificates.make_authority(pathlib.Path(folder, "authority"))
             ledger, goes_on, asked, usual = Ledger(), threading.Event(), list[str](), socket.getaddrinfo
@@ -217,10 +227,10 @@ class Addresses(unittest.IsolatedAsyncioTestCase):
 
 
 class Reading(LedgerCase):
-    """What is asked of etcd for who follows."""
+    """What a recorder asks of etcd for its followers."""
 
     async def fill(self, sizes: list[int], text: str) -> list[Chain]:
-        """Appends batches of so many entries; what the ledger was before each of them, and is behind the last one."""
+        """Appends batches of these numbers of entries; returns the chain before each of them and after the last one."""
         asked = self.recorders[0]
         await asked.refresh()
         chains = [asked.chain]
@@ -257,7 +267,7 @@ class Reading(LedgerCase):
         before, last = resident(), chains[-1].place
         read = await asyncio.gather(*(self.recorders[0].etcd.batches(last - 1) for _ in range(16)))
         self.assertEqual({it[0].after for it in read}, {chains[-1]})
-        self.assertLess(resident() - before, 150)  # MB; the ledger has 48, which each read took several times
+        self.assertLess(resident() - before, 150)  # MB; the ledger has 48, and each read once took several times that
 
 
 if __name__ == "__main__":

@@ -1,4 +1,4 @@
-"""The state of a ledger in a database: at each place, start and checkpoint, and where the disk is full or torn."""
+"""The state of a ledger in a database: at each place, start and checkpoint, and with a disk that is full or damaged."""
 import asyncio
 import contextlib
 import io
@@ -40,7 +40,7 @@ class States(RulesCase):
                 kept.close()
 
     def test_a_checkpoint_at_each_place_leads_to_what_all_entries_lead_to(self) -> None:
-        """Whoever takes it and hears what follows has the same ledger, and would write the same checkpoint."""
+        """A follower that loads it and hears what follows has the same ledger, and would write the same checkpoint."""
         with mock.patch.object(blobs, "CACHED", 3), mock.patch.object(checkpoint, "LONGEST", 200):
             for seed in range(3):
                 drawn, whole, chain = random.Random(seed), State(), Chain(0, bytes(32))
@@ -141,7 +141,7 @@ class States(RulesCase):
             kept.close()
 
     def test_a_state_stays_where_the_disk_is_full_at_a_start(self) -> None:
-        """Or where it cannot be read or opened: only what is torn is made anew."""
+        """Or if it cannot be read or opened: only a damaged file is made anew."""
         with tempfile.TemporaryDirectory() as folder:
             path = pathlib.Path(folder) / "kept"
             kept = State.open(str(path))
@@ -149,7 +149,7 @@ class States(RulesCase):
             kept.save(Chain(1, bytes(32)))
             kept.close()
             whole = path.read_bytes()
-            base = sqlite3.connect(path)  # another one's, which stands for a disk that takes nothing
+            base = sqlite3.connect(path)  # another connection's lock, in place of a disk that takes nothing
             base.execute("BEGIN EXCLUSIVE")
             connect = sqlite3.connect
             with mock.patch.object(state.sqlite3, "connect", lambda *it, **to: connect(*it, **{**to, "timeout": 0})):
@@ -170,7 +170,7 @@ class States(RulesCase):
             kept, chain = State(f"{folder}/kept", 2), Chain(0, bytes(32))
 
             def enter(*texts: str) -> int:
-                """The place up to which another process reads it, once these are entered."""
+                """Applies these entries, and returns the place up to which another process then reads the state."""
                 nonlocal chain
                 for text in texts:
                     kept.ledger.apply(Entry(chain.place + 1, text))
@@ -182,7 +182,7 @@ class States(RulesCase):
             owners, blobs = ",".join("abcd"), [entry_key("x", "register", f"{it:064}", 5) for it in range(3)]
             self.assertEqual(enter(entry_key(OPERATOR, "begin", 0, 1, owners)), 1)
             self.assertEqual((enter(*blobs), kept.whole), (1, False))
-            self.assertEqual([it.key for it in kept.entries(1)], blobs)  # and is there for who asks for it
+            self.assertEqual([it.key for it in kept.entries(1)], blobs)  # and can be asked for
             self.assertEqual((enter(), kept.whole), (4, True))
             turn = [entry_key(OPERATOR, "begin", 1, 1, owners), *(entry_key(it, "ready", 1) for it in "abc")]
             self.assertEqual(enter(*turn), 4)

@@ -1,4 +1,4 @@
-"""etcd ends, in order or not, hangs, comes back, and says strange things meanwhile: who follows the ledger goes on."""
+"""etcd ends, in order or not, hangs, comes back, and answers strangely meanwhile: followers of the ledger continue."""
 import asyncio
 import contextlib
 import dataclasses
@@ -33,7 +33,7 @@ class Absences(unittest.IsolatedAsyncioTestCase):
         await view.enter(News(Chain(0, b""), [], 0, ""))
         self.assertEqual(view.away_since(begun), "the ledger was away for 30 s (etcd is slow)")
         self.assertEqual(view.away_since(time.monotonic()), "")
-        view.heard_at -= follower.AWAY - 1  # no longer than between two words of a recorder that is busy
+        view.heard_at -= follower.AWAY - 1  # no longer than a busy recorder may be silent
         await view.enter(News(Chain(0, b""), [], 0, ""))
         self.assertEqual(view.away_since(begun), "the ledger was away for 30 s (etcd is slow)")
 
@@ -43,7 +43,7 @@ class Stops(GatewayCase):
 
     @contextlib.asynccontextmanager
     async def load(self, away: bool = False) -> AsyncIterator[None]:
-        """Files go in and come back meanwhile, unless the ledger is away for too long; each refusal names it."""
+        """Stores and fetches files meanwhile; refusals are allowed only if the ledger is away and they say so."""
         self.stored, self.refusals, over = list[tuple[str, bytes]](), list[bytes](), asyncio.Event()
 
         async def write() -> None:
@@ -83,13 +83,13 @@ class Stops(GatewayCase):
         return [name for name in FOUR if self.local.processes[name].returncode is None]
 
     async def stores_soon(self, seconds: float = 25) -> None:
-        """A file is stored, not long after the ledger is back; all nodes run still and acknowledge it."""
+        """Checks that a file is stored soon after the ledger is back, and that all nodes run and acknowledge it."""
         begun = time.monotonic()
         told = await self.put(DRAWN.randbytes(900))
         self.assertLess(time.monotonic() - begun, seconds)
         self.assertEqual(self.alive(), FOUR, self.logs())
         identifier = bytes.fromhex(told["blobId"])
-        words = self.network.until(lambda it: it.certificate(identifier) == (0, 4), 90)  # a late word comes by `heal`
+        words = self.network.until(lambda it: it.certificate(identifier) == (0, 4), 90)  # a late one comes by `heal`
         self.assertTrue(await words, self.logs())
         self.assertFalse(self.network.lost)
 
@@ -154,7 +154,7 @@ class Stops(GatewayCase):
         self.assertEqual((await self.network.publish(blob, 5)).identifier, blob.identifier)
 
     async def ledger_told(self, stale: bool) -> str:
-        """Waits until the status says that the ledger is away, or is not, and the numbers say so too; why it is."""
+        """Waits until the status and the metrics agree on whether the ledger is away; returns why it is."""
         for _ in range(300):
             told = json.loads((await self.curl("/v1/status"))[2])["ledger"]
             if told["stale"] == stale:
@@ -167,7 +167,7 @@ class Stops(GatewayCase):
         return str(told["said"])
 
     async def silence(self, port: int, away: bool) -> None:
-        """Waits until a node's own numbers say that the ledger is away for more than `stale` seconds, or is not."""
+        """Waits until a node's own metrics say that the ledger is away for more than `stale` seconds, or is not."""
         async with aiohttp.ClientSession() as session:
             for _ in range(300):
                 async with session.get(f"http://127.0.0.1:{port}/metrics") as said:
@@ -234,7 +234,7 @@ class Stops(GatewayCase):
             await asyncio.wait_for(serving, 30)
 
     async def test_nodes_stop_where_the_ledger_is_an_older_one(self) -> None:
-        """What a restored snapshot of etcd would do: entries that were heard are no more."""
+        """A restored snapshot of etcd would cause that: entries that were heard no longer exist."""
         await self.start()
         before = self.folder / "before"
         await self.put(b"first")
@@ -247,7 +247,7 @@ class Stops(GatewayCase):
         shutil.rmtree(self.folder / "etcd")
         before.rename(self.folder / "etcd")
         await self.local.start_etcd()
-        await self.local.start_recorder("recorder-0")  # which stops too, and would else go on with what is older
+        await self.local.start_recorder("recorder-0")  # which stops too, as it would otherwise serve the older ledger
         self.assertEqual(await asyncio.wait_for(self.local.processes["recorder-0"].wait(), 30), 1)
         said = "must stop: etcd has another ledger than before, or an older one: .*: restore it .*, or remove .*ledger$"
         self.assertRegex(self.log("recorder-0").splitlines()[-1], said)

@@ -1,4 +1,4 @@
-"""Names that nodes, gateways and users of a network get and lose, the plan that has them, and who may read keys."""
+"""Names of nodes, gateways and users: adding and removing them, the plan that lists them, and the modes of keys."""
 import contextlib
 import json
 import resource
@@ -12,7 +12,7 @@ from walrus.network.machine import Unfounded
 
 @contextlib.contextmanager
 def full_disk() -> Iterator[None]:
-    """Has this process write no file of more than a few bytes."""
+    """Lets this process write no file of more than a few bytes."""
     before = resource.getrlimit(resource.RLIMIT_FSIZE)
     resource.setrlimit(resource.RLIMIT_FSIZE, (9, before[1]))
     try:
@@ -26,8 +26,16 @@ class Names(FoundingCase):
         await super().asyncSetUp()
         await self.found()
 
+    async def test_a_certificate_that_nobody_has_is_not_renewed_nor_is_another_one(self) -> None:
+        before = {path: path.read_bytes() for path in self.folder.rglob("*.crt")}
+        for named in (["nobody"], ["alpha", "gama", "nobody"]):
+            text = f"no certificate of {' or '.join(named[-2:])}: nothing was renewed$"
+            with self.assertRaisesRegex(Unfounded, text):
+                await self.says("renew", self.folder, *named)
+        self.assertEqual({path: path.read_bytes() for path in self.folder.rglob("*.crt")}, before)
+
     async def test_no_name_is_that_of_another_one_in_upper_case(self) -> None:
-        """TLS takes one for the other: who is called Recorder could answer as a recorder does."""
+        """TLS takes one for the other: a user called Recorder could answer as a recorder does."""
         for words, why in (
             (["--user", "Recorder"], "Recorder cannot be a user's name"),
             (["--user", "OPERATOR"], "OPERATOR cannot be a user's name"),

@@ -1,4 +1,4 @@
-"""What a handover looks at before it begins, over a ledger with nodes that are none but in what they answer."""
+"""Commands of operators over a ledger, and what a handover checks first, with fake nodes that only answer."""
 import argparse
 import asyncio
 import contextlib
@@ -8,11 +8,11 @@ import pathlib
 import shutil
 import ssl
 import unittest
-from typing import Any
+from typing import Any, Sequence
 from unittest import mock
 
 import harness
-from ledger_case import FOUR, LedgerCase
+from ledger_case import FOUR, LedgerCase, registration
 from walrus import client, frames
 from walrus.network import operating
 from walrus.network.entries import ADDRESS, OPERATOR, entry_key
@@ -27,7 +27,7 @@ NODES = ["node-0", "node-1", "node-2", "node-3"]
 @unittest.skipUnless(os.access(harness.find_program(), os.X_OK), "the program is not built")
 class Handover(LedgerCase):
     async def node(self, name: str, certificate: str = "", host: str = "127.0.0.1") -> asyncio.AbstractServer:
-        """A node that says of every blob that it is unregistered, under a certificate of its name or of another."""
+        """Starts a fake node that answers that any blob is unregistered, with a certificate of this name or another."""
         recorders = await self.newcomer(name)
         context = ssl.create_default_context(ssl.Purpose.CLIENT_AUTH)
         path = self.folder / "users" / (certificate or name)
@@ -45,13 +45,21 @@ class Handover(LedgerCase):
         return server
 
     async def hand_over(self, *owners: str, **options: Any) -> str:
-        """What the command says before it begins, which it then does not."""
-        words = {"json": False, "force": False, "yes": True, "concentrated": False, "seconds": 0.1, **options}
-        told = argparse.Namespace(folder=self.folder, owners=owners, **words)
+        """Runs the command, which must fail, and returns its output and the failure's text."""
         said = io.StringIO()
         with contextlib.redirect_stdout(said), self.assertRaises(Failure) as caught:
-            await operating.hand_over(told)
+            await operating.hand_over(self.words_of(owners, **options))
         return f"{said.getvalue()}{caught.exception.args[0]}"
+
+    def words_of(self, owners: Sequence[str], **options: Any) -> argparse.Namespace:
+        words = {"json": False, "force": False, "yes": True, "concentrated": False, "seconds": 0.1, "epoch": 0}
+        return argparse.Namespace(folder=self.folder, owners=owners, **{**words, **options})
+
+    async def done(self, *owners: str, **options: Any) -> str:
+        """Runs the command, which must succeed, and returns its output."""
+        with contextlib.redirect_stdout(io.StringIO()) as said:
+            self.assertEqual(await operating.hand_over(self.words_of(owners, **options)), 0)
+        return said.getvalue()
 
     async def epoch_begins(self) -> bool:
         async with self.following(self.user("publisher")) as view:
@@ -65,7 +73,7 @@ class Handover(LedgerCase):
             "node-3 and nobody told", await self.hand_over("node-0", "node-1", "node-3", "nobody", force=True)
         )
         stray = await self.newcomer("node-3")
-        for host in ("a" * 100, "a..b", "::::"):  # of which some are no names to the system
+        for host in ("a" * 100, "a..b", "::::"):  # some of which the system does not resolve
             await stray.post(entry_key("node-3", ADDRESS, host, 1))
             self.assertRegex(await self.hand_over(*NODES), r"node-3 does not answer \(.*nothing was begun", host)
         await self.node("node-3", certificate="node-0")
@@ -112,15 +120,15 @@ class Handover(LedgerCase):
             self.assertIn("epoch 1 has not begun after" if begins else "nothing was begun", said)
             self.assertEqual(await self.epoch_begins(), begins)
 
-    async def finish(self, epoch: int) -> None:
-        """What nodes do for a handover that has begun."""
+    async def finish(self, epoch: int, names: Sequence[str] = NODES[:3]) -> None:
+        """Posts what nodes post for a handover that has begun."""
         async with self.following(self.user("publisher")) as view:
             self.assertTrue(await view.until(lambda it: it.moving))
-        for text in [*(entry_key(it, "ready", epoch) for it in NODES[:3]), entry_key("node-0", "finish", epoch)]:
+        for text in [*(entry_key(it, "ready", epoch) for it in names), entry_key(names[0], "finish", epoch)]:
             await self.user(text.partition("/")[0]).post(text)
 
     async def test_no_epoch_begins_but_the_one_that_was_asked_about(self) -> None:
-        """Though another handover is done while this one waits for the nodes' answers."""
+        """Even if another handover is completed while this one waits for the nodes' answers."""
         for name in NODES:
             await self.newcomer(name)
         other = ["node-1*2", "node-2", "node-3"]
@@ -131,8 +139,7 @@ class Handover(LedgerCase):
                 await self.finish(epoch)
                 self.assertTrue(await network.until(lambda it: it.epoch == epoch))
 
-            words = {"json": False, "force": False, "yes": True, "concentrated": True, "seconds": 9}
-            told = argparse.Namespace(folder=self.folder, owners=owners, **words)
+            told = self.words_of(owners, concentrated=True, seconds=9)
             with contextlib.ExitStack() as stack:
                 stack.enter_context(mock.patch.object(operating, "must_answer", meanwhile))
                 said = stack.enter_context(contextlib.redirect_stdout(io.StringIO()))
@@ -145,15 +152,71 @@ class Handover(LedgerCase):
     async def test_before_nodes_without_shards_are_removed_a_snapshot_is_asked_for(self) -> None:
         for name in (*NODES, "node-4"):
             await self.node(name)
-        words = {"json": False, "force": False, "yes": True, "concentrated": False, "seconds": 30}
         snapshot = "; take a snapshot of the ledger before you remove nodes without shards (network/OPERATING.md)"
         for epoch, owners, more in ((1, NODES, ""), (2, [*NODES[:3], "node-4"], snapshot)):
-            told, said = argparse.Namespace(folder=self.folder, owners=owners, **words), io.StringIO()
             async with asyncio.TaskGroup() as group:
                 group.create_task(self.finish(epoch))
-                with contextlib.redirect_stdout(said):
-                    self.assertEqual(await operating.hand_over(told), 0)
-            self.assertEqual(said.getvalue().splitlines()[-1], f"epoch {epoch} has begun{more}")
+                said = await self.done(*owners, seconds=30)
+            self.assertEqual(said.splitlines()[-1], f"epoch {epoch} has begun{more}")
+
+    async def test_a_handover_that_takes_long_is_waited_for_by_its_epoch_and_begun_once(self) -> None:
+        for name in NODES:
+            await self.node(name)
+        said = await self.hand_over(*NODES)
+        self.assertRegex(said, "epoch 1 has not begun after 0.1 s: .* wait for it with --epoch 1, .* begin epoch 2$")
+        async with asyncio.TaskGroup() as group:
+            group.create_task(self.finish(1))
+            self.assertEqual(await self.done(*NODES, epoch=1, seconds=30), "epoch 1 has begun\n")
+        for owners in ((), NODES, NODES[::-1]):
+            self.assertEqual(await self.done(*owners, epoch=1), "epoch 1 has begun before: nothing was begun\n")
+        told = {"epoch": 1, "nodes": NODES, "ended": []}
+        self.assertEqual(operating.json.loads(await self.done(*NODES, epoch=1, json=True)), told)
+        self.assertIn("has other nodes than these", await self.hand_over(*NODES[:3], "node-4", epoch=1))
+        self.assertIn("epoch 2 comes next, not epoch 3", await self.hand_over(*NODES, epoch=3))
+        self.assertFalse(await self.epoch_begins())
+
+    async def test_nodes_keep_their_shards_in_whatever_order_they_are_named(self) -> None:
+        for name in (*NODES, "node-4"):
+            await self.node(name)
+        said = await self.hand_over("node-2", "node-3", "node-1", "node-4")
+        self.assertIn("the order of the names does not count: node-4 takes over shard 0\n", said)
+        async with self.following(self.user("publisher")) as view:
+            self.assertEqual(view.ledger.next, ("node-4", "node-1", "node-2", "node-3"))
+        await self.finish(1, NODES[1:])
+        said = await self.done("node-3", "node-1", "node-4", "node-2", epoch=1)  # it is the same committee
+        self.assertIn("has begun before", said)
+
+    async def test_who_is_to_be_expelled_is_shown_and_asked_about(self) -> None:
+        publisher = await self.newcomer("writer")
+        for number in (1, 2):
+            await publisher.post(registration("writer", number))
+
+        async def expel(name: str, **options: Any) -> str:
+            words = argparse.Namespace(command="expel", folder=self.folder, name=name, json=False, **options)
+            with contextlib.redirect_stdout(io.StringIO()) as said:
+                try:
+                    await operating.post(words)
+                except Failure as fault:
+                    return f"{said.getvalue()}{fault.args[0]}"
+            return said.getvalue()
+
+        for name, known in (
+            ("node-1", "node-1 has 1 shards, and 1 may be lost\n"),
+            ("writer", "writer has 2 live blobs\n"),
+            ("Writer", "the ledger knows nothing of Writer: is it spelt so?\n"),
+        ):
+            said = await expel(name, yes=False)
+            self.assertEqual(said.partition(f"{name} is not")[0], known)
+            self.assertRegex(said, "is not expelled, as there is no terminal to ask at: --yes expels it without asking")
+            with mock.patch("sys.stdin", mock.Mock(isatty=lambda: True)), mock.patch("builtins.input", lambda _: ""):
+                self.assertEqual(await expel(name, yes=False), f"{known}{name} is not expelled")
+        async with self.following(self.user("publisher")) as view:
+            self.assertEqual(view.ledger.expelled, frozenset())
+        with mock.patch("sys.stdin", mock.Mock(isatty=lambda: True)), mock.patch("builtins.input", lambda _: "y"):
+            self.assertIn("writer is expelled, from place", await expel("writer", yes=False))
+        self.assertIn("Writer is expelled, from place", await expel("Writer", yes=True))
+        async with self.following(self.user("publisher")) as view:
+            self.assertEqual(view.ledger.expelled, {"writer", "Writer"})
 
     async def test_the_plan_of_a_network_begins_its_first_epoch_once_its_nodes_answer(self) -> None:
         said = await self.begin({"node-0": ["alpha", 1, 4]})
@@ -168,11 +231,23 @@ class Handover(LedgerCase):
         return str(caught.exception.args[0])
 
 
+class Arranged(unittest.TestCase):
+    def test_a_node_keeps_as_many_of_its_shards_as_it_can(self) -> None:
+        for now, named, wanted in (
+            ("a b c d", "b c d e", "e b c d"),
+            ("a b c d", "d c b a", "a b c d"),
+            ("a a b c", "b a a d", "a a b d"),
+            ("a a a b", "c b a c", "a c c b"),
+            ("a b c d", "e f g h", "e f g h"),
+        ):
+            self.assertEqual(operating.arranged(now.split(), named.split()), wanted.split())
+
+
 class Anew(LedgerCase):
     apart = True
 
     async def test_certificates_of_other_authorities_void_all_that_were_signed_before(self) -> None:
-        """What the manual says about an operator's key that may be known."""
+        """These are the manual's steps for an operator's key that may be known to others."""
         other, known = Local(self.folder / "other"), self.folder / "known"
         other.members, other.recorders = self.local.members, self.local.recorders
         other.folder.mkdir()

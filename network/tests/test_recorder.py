@@ -1,4 +1,4 @@
-"""Recorders over a ledger, tried by who posts what it must not."""
+"""Recorders refuse posters that post what they must not."""
 import asyncio
 import json
 import ssl
@@ -15,7 +15,7 @@ from walrus.network.local import AUTHORITY, ETCD_AUTHORITY, make_certificate
 
 class Adversary(LedgerCase):
     async def test_nobody_but_a_recorder_reaches_etcd(self) -> None:
-        """So nobody deletes an entry, compacts what was, or writes under a key."""
+        """So nobody else can delete an entry, compact the history, or write a key."""
         await self.publisher.post(registration("publisher", 1))
         url = self.local.told()["etcd"]["etcd"][0]
         for name in ("", "publisher", OPERATOR):
@@ -164,7 +164,7 @@ class Adversary(LedgerCase):
 
 class Judged(RecorderCase):
     async def test_what_a_batch_takes_back_is_appended_anew(self) -> None:
-        """As where etcd hangs, and a node is started at another address and at the one before meanwhile."""
+        """As when etcd hangs, and meanwhile a node is started at another address and then at its old one again."""
         here, there = (entry_key("node-0", ADDRESS, host, 1) for host in ("alpha", "beta"))
         for known, texts in (([here], [there, here]), ([], [here, there, here]), ([], [here, there, here, there])):
             self.etcd = Memory()

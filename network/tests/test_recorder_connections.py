@@ -1,4 +1,4 @@
-"""Who has many connections to a recorder, sends halves, or follows and reads nothing."""
+"""Clients that hold many connections to a recorder, send half requests, or follow without reading."""
 import asyncio
 import contextlib
 import socket
@@ -40,7 +40,7 @@ class Connections(LedgerCase):
         self.assertEqual((await self.ask("publisher", "GET", "/v1/status"))[0], 200)
 
     async def opened(self, name: str, count: int) -> list[tuple[asyncio.StreamReader, asyncio.StreamWriter]]:
-        """So many connections with a recorder."""
+        """Opens this number of connections to a recorder."""
         host, _, port = self.local.told()["recorders"][0].rpartition(":")
         context, opened = self.context(name), list[tuple[asyncio.StreamReader, asyncio.StreamWriter]]()
         for _ in range(count):
@@ -50,7 +50,7 @@ class Connections(LedgerCase):
         return opened
 
     async def answered(self, opened: list[tuple[asyncio.StreamReader, asyncio.StreamWriter]], status: int) -> int:
-        """How many of some connections answer so."""
+        """Returns how many of these connections get this answer."""
         found = 0
         for reader, writer in opened:
             with contextlib.suppress(OSError, asyncio.IncompleteReadError, TimeoutError):
@@ -98,7 +98,7 @@ class Connections(LedgerCase):
         self.assertTrue(0 < sum(it.size for it in read) <= recorder.RECENT)
 
     async def test_what_is_packed_stays_so(self) -> None:
-        """A body that would be a thousand times longer is no JSON, and no room is taken for it."""
+        """A compressed body, which could be a thousand times longer, counts as malformed JSON and takes no memory."""
         for packing in ("deflate", "gzip"):
             body = zlib.compress(b" " * 400_000 + b"[]", 9, 15 if packing == "deflate" else 31)
             headers = {"Content-Encoding": packing}
@@ -144,7 +144,7 @@ class Connections(LedgerCase):
 
 class Addresses(LedgerCase):
     async def test_an_address_that_takes_no_connection_hides_no_other_one(self) -> None:
-        """As where a name has an address of IPv6 too, and a firewall drops what comes to that."""
+        """As when a name also has an IPv6 address, and a firewall drops packets to that one."""
         port = int(self.local.told()["recorders"][0].rpartition(":")[2])
         with socket.create_server(("127.0.0.2", port), backlog=0), contextlib.ExitStack() as stack:
             for _ in range(4):

@@ -1,4 +1,4 @@
-"""Recorders over an etcd in memory, of which each call may fail, and with a disk that is full."""
+"""Recorders over an etcd in memory, each call of which may fail, and recorders with a full disk."""
 import asyncio
 import contextlib
 import dataclasses
@@ -18,7 +18,7 @@ from walrus.network.entries import ADDRESS, Chain, entry_key
 from walrus.network.settings import RecorderSettings
 from walrus.network.waiting import Waiting
 
-KILLS = 500  # at most: on a machine that is too busy for a call between two of them nothing would ever come about
+KILLS = 500  # at most: on a machine too busy for a call between two of them the test would never end
 
 
 class FullDisk(unittest.IsolatedAsyncioTestCase):
@@ -80,7 +80,7 @@ class FullDisk(unittest.IsolatedAsyncioTestCase):
 
 
 class Heads(unittest.IsolatedAsyncioTestCase):
-    """What recorders over one etcd ask it for."""
+    """What recorders ask etcd for."""
 
     async def asyncSetUp(self) -> None:
         asyncio.get_running_loop().set_debug(False)
@@ -101,7 +101,7 @@ class Heads(unittest.IsolatedAsyncioTestCase):
         with mock.patch.object(recorder, "POLL", 3600.0):
             await asyncio.gather(
                 *(it.refresh() for it in self.recorders)
-            )  # who waits from now on has the long deadline
+            )  # whatever waits from now on has the long deadline
             self.tasks[1].cancel()
             await asyncio.sleep(0.1)
             calls = self.etcd.calls
@@ -166,13 +166,13 @@ class Waits(unittest.IsolatedAsyncioTestCase):
 
 
 class Steps(unittest.IsolatedAsyncioTestCase):
-    """Recorders over an etcd in memory, each call of which fails in turn, before it is done or behind it."""
+    """Recorders over an etcd in memory, each call of which fails in turn, before or after it takes effect."""
 
     async def asyncSetUp(self) -> None:
         asyncio.get_running_loop().set_debug(False)
 
     async def run_one(self, etcd: Memory, texts: list[str], recorders: list[recorder.Recorder]) -> None:
-        """Posts each entry until a recorder has its place; the same place for ever."""
+        """Posts each entry until a recorder returns its place, which must stay the same."""
         for number, text in enumerate(texts):
             places = set()
             for _ in range(2):
@@ -237,7 +237,7 @@ class Steps(unittest.IsolatedAsyncioTestCase):
                         await self.go(etcd, call, False)
 
     async def test_a_recorder_is_killed_at_each_call_in_turn(self) -> None:
-        """What it has asked of etcd is done or not; what it had not yet answered is posted again, at any recorder."""
+        """Its last call takes effect or not; entries that it had not answered are posted again, to any recorder."""
         with mock.patch.multiple(recorder, POLL=0.01), contextlib.redirect_stderr(None):
             ended = 0
             for call in range(1, 25):

@@ -1,4 +1,4 @@
-"""Who follows a recorder, and who posts to it, whatever it says."""
+"""Followers of a recorder and posters to it, whatever it answers."""
 import asyncio
 import contextlib
 import json
@@ -18,7 +18,7 @@ from walrus.network.local import Local
 
 
 class Streams(LedgerCase):
-    """A recorder of this test's own says what it is told, line by line, for one stream after the other."""
+    """A fake recorder that sends given lines, one stream after the other."""
 
     async def asyncSetUp(self) -> None:
         self.folder = pathlib.Path(tempfile.mkdtemp(prefix="walrus-ledger-"))

@@ -1,4 +1,4 @@
-"""Recorders under load while etcd, its members or recorders end, and where etcd is full."""
+"""Recorders under load while etcd, its members or recorders end, and when etcd is full."""
 import asyncio
 import contextlib
 import dataclasses
@@ -30,7 +30,7 @@ class Loaded(LedgerCase):
 
     @contextlib.asynccontextmanager
     async def loaded(self):  # type: ignore[no-untyped-def]
-        """Load by eight posters over both recorders, and two who follow; at the end all of it is there, once."""
+        """Has eight posters post over both recorders, with two followers; at the end each entry is there once."""
         acknowledged: dict[str, int] = {}
         users = [self.user("publisher", number % 2 if number < 4 else None) for number in range(8)]
         async with self.following(self.user("publisher")) as one, self.following(self.user(OPERATOR)) as two:
@@ -57,7 +57,7 @@ class Loaded(LedgerCase):
 
 
 class Trouble(Loaded):
-    """What acknowledged entries survive, and how who follows hears of it."""
+    """Acknowledged entries survive failures, and followers learn of those."""
 
     async def test_etcd_ends_in_every_way(self) -> None:
         async with self.loaded() as acknowledged:
@@ -129,7 +129,7 @@ class Trouble(Loaded):
         self.assertEqual(news[-1].chain, view.chain)
 
     async def first(self, place: int):  # type: ignore[no-untyped-def]
-        """What is told behind a place that stands in the midst of it, up to the end."""
+        """Returns what is sent after a place in the midst of a batch, up to the end."""
         async with self.following(self.user("publisher")) as view:
             pass
         everything = [entry async for entry in self.told(view)]
@@ -155,7 +155,7 @@ class ThreeMembers(Loaded):
     members = ["etcd-0", "etcd-1", "etcd-2"]
 
     async def leader(self) -> str:
-        """The member of etcd that leads just now."""
+        """Returns the present leader of etcd's members."""
         settings = RecorderSettings.read(self.folder / "recorder-0.toml")
         for _ in range(300):
             for name, (url, _) in self.local.told()["etcd"].items():
@@ -181,7 +181,7 @@ class ThreeMembers(Loaded):
 
 
 class Quota(LedgerCase):
-    """An etcd that has room for few entries."""
+    """An etcd with room for few entries."""
 
     async def copy_certificates(self) -> None:
         await super().copy_certificates()
@@ -194,7 +194,7 @@ class Quota(LedgerCase):
         path.write_text(text)
 
     async def disarm(self) -> None:
-        """Does what `etcdctl alarm disarm` does, once etcd answers."""
+        """Clears etcd's alarm, as `etcdctl alarm disarm` does, once etcd answers."""
         call, alarms = self.recorders[0].etcd.call, list[dict[str, Any]]()
         while not alarms:
             with contextlib.suppress(Failed):

@@ -1,8 +1,7 @@
-"""etcd is restored from a snapshot older than what the network has heard, and the ledger is made whole again."""
+"""etcd is restored from a snapshot older than what the network has heard, and then the ledger is completed."""
 import asyncio
 import contextlib
 import io
-import json
 import os
 import shutil
 import subprocess
@@ -26,7 +25,7 @@ NODES = FOUR.split(",")
 
 
 class Liar(State):
-    """A node that tells a tail of its own."""
+    """The state of a node that reports an invented tail."""
 
     def entries(self, after: int = -1, count: int = -1) -> Any:
         found = super().entries(after, count)
@@ -42,7 +41,7 @@ class Agreed(unittest.IsolatedAsyncioTestCase):
             (["abc", "ab", "ax", ""], "ab"),
             (["abc", "", "", ""], ""),
             (["xyz", "abc", "abcd", ""], "abc"),
-            (["ab", "ab", "xb", "xb"], "ab"),  # which no f nodes that lie can bring about
+            (["ab", "ab", "xb", "xb"], "ab"),  # which f lying nodes cannot bring about
             (["abc", "xbc"], ""),
         ):
             service.tails = {name: list(tail) for name, tail in zip(NODES, told)}
@@ -70,59 +69,6 @@ class Agreed(unittest.IsolatedAsyncioTestCase):
         self.assertEqual(service.agreed(), ["x"])
         made.state.close()
 
-    async def begun(self, *texts: str) -> tuple[Memory, Chain]:
-        """An etcd whose ledger has these entries, and how far it goes."""
-        memory = Memory()
-        founder = Recorder(memory)
-        self.addCleanup(founder.state.close)
-        await founder.catch_up()
-        self.assertTrue(await founder.step(Batch(founder.chain, [*texts])))
-        return memory, founder.chain
-
-    async def tell(self, service: Restoring, name: str, heard: Chain) -> None:
-        """Has somebody follow who has heard so much, and who tells as he is asked to."""
-        request = mock.MagicMock(query={"after": str(heard.place)})
-        request.__getitem__.return_value = name
-        told = json.loads((await service.follow(request)).text or "")
-        if "tail" in told:
-            body = {"after": told["tail"], "digest": heard.digest.hex() * (told["tail"] == heard.place), "entries": []}
-            request.json = mock.AsyncMock(return_value=body)
-            await service.hear(request)
-
-    async def test_who_has_heard_less_than_etcd_has_tells_whether_it_is_the_same(self) -> None:
-        """So a recorder is found that ran over the older ledger and appended more to it than nodes had heard."""
-        memory, _ = await self.begun(FOUNDED, *(registration("stray", number) for number in range(9)))
-        service = Restoring(Recorder(memory), mock.Mock())
-        self.addCleanup(service.recorder.state.close)
-        await service.recorder.catch_up()
-        start = Chain(0, bytes.fromhex(service.recorder.state.identity)).behind([FOUNDED])
-        other = start.behind([registration("publisher", number) for number in range(5)])
-        await self.tell(service, NODES[0], start)
-        await self.tell(service, NODES[1], other)
-        await self.tell(service, "stranger", other)
-        self.assertEqual((service.tails, service.others), ({NODES[0]: []}, {NODES[1]}))
-        service.recorder.recent.clear()  # so that etcd is asked
-        await self.tell(service, NODES[2], other)
-        with self.assertRaisesRegex(Broken, "other entries up to place 10 than"):
-            await service.restore(60)
-
-    async def test_somebody_without_shards_makes_no_restore_fail_that_is_complete(self) -> None:
-        memory, end = await self.begun(FOUNDED, registration("publisher", 1))
-        memory.aclose = mock.AsyncMock()
-        for heard, chain, status in ((4, end, 0), (3, end, 0), (2, end, 1), (4, Chain(0, b""), 1)):
-
-            async def listen(service: Restoring, names: list[str] = NODES[:heard], chain: Chain = chain) -> int:
-                for name in names:
-                    await self.tell(service, name, chain)
-                service.short["publisher"] = 10**9
-                return 0
-
-            etcd, said = mock.patch.object(restoring, "etcd_of", lambda _: memory), io.StringIO()
-            with etcd, mock.patch.object(Restoring, "listen", listen):
-                with contextlib.redirect_stderr(said), contextlib.redirect_stdout(io.StringIO()):
-                    self.assertEqual(await restoring.serve(mock.Mock(), 0.1), status)
-            self.assertIn("publisher heard more than the" if status else "publisher reported more", said.getvalue())
-
     async def test_no_ledger_is_founded_where_the_snapshot_was_not_restored(self) -> None:
         memory = Memory()
         service = Restoring(Recorder(memory), mock.Mock())
@@ -138,10 +84,11 @@ class Agreed(unittest.IsolatedAsyncioTestCase):
         founder, service = Recorder(memory), Restoring(Recorder(memory), mock.Mock())
         self.addCleanup(founder.state.close)
         await founder.catch_up()
+        self.assertTrue(await founder.step(Batch(founder.chain, [FOUNDED])))
         self.addCleanup(service.recorder.state.close)
         memory.plan = {memory.calls + 1: "before", memory.calls + 2: "before"}
         await service.find_end(60, told)
-        self.assertIn("fail before call 4; it is asked again for up to 60 s\n", said.getvalue())
+        self.assertIn("fail before call 5; it is asked again for up to 60 s\n", said.getvalue())
         self.assertNotEqual(service.recorder.state.identity, "")
         memory.plan = dict.fromkeys(range(10_000), "before")
         with self.assertRaises(Failed):
@@ -163,7 +110,7 @@ class Restored(LedgerCase):
             self.follow(name)
 
     def follow(self, name: str) -> None:
-        """Has a node follow, over what it has on its disk."""
+        """Has a node follow the ledger, continuing from its disk."""
         state = (Liar if name == "node-3" else State)(str(self.folder / f"{name}.ledger"), 2)
         self.views[name] = view = View(self.user(name), state)
         self.tasks[name] = task = asyncio.create_task(view.follow())
@@ -171,7 +118,7 @@ class Restored(LedgerCase):
         self.addCleanup(task.cancel)
 
     async def upload(self, first: int, last: int) -> None:
-        """Registers blobs, which three nodes acknowledge."""
+        """Registers blobs that three nodes then acknowledge."""
         texts = [registration("publisher", number) for number in range(first, last)]
         await asyncio.gather(*map(self.publisher.post, texts))
         for name in NODES[:3]:
@@ -188,7 +135,7 @@ class Restored(LedgerCase):
         self.assertEqual(ran.returncode, 0, ran.stderr)
 
     async def fall_back(self) -> None:
-        """Ends all recorders, and has etcd begin again with the snapshot."""
+        """Kills all recorders and etcd, and starts etcd again from the snapshot."""
         for name in ("recorder-0", "recorder-1", "etcd"):
             await self.local.end(name, kill=True)
         shutil.rmtree(self.folder / "etcd")

@@ -112,6 +112,12 @@ class Founding:
     def nodes(self) -> list[Place]:
         return [Place(name, *it) for name, it in self.plan["nodes"].items()]
 
+    def must_have(self, named: Sequence[str]) -> None:
+        """Raises `Unfounded` if one of these names has no certificate here."""
+        paths = [*self.folder.glob("*.crt"), *self.folder.glob("hosts/*/*.crt"), *self.folder.glob("users/*/*.crt")]
+        if unknown := {*named} - {path.stem for path in paths}:
+            raise Unfounded(f"{self.folder} has no certificate of {' or '.join(sorted(unknown))}: nothing was renewed")
+
     def add(self, nodes: Sequence[Place], gateways: Sequence[Place], users: Sequence[str]) -> None:
         """Makes the files of these nodes, gateways and users if all can have their names, and saves the plan."""
         must_be_named(nodes, gateways, users, [*self.plan["nodes"], *self.plan["gateways"], *self.plan["users"]])

@@ -7,6 +7,7 @@ import json
 import re
 import sys
 import time
+from typing import Sequence
 
 from .. import client
 
@@ -14,6 +15,7 @@ from .client import Network
 from .dates import seconds_of
 from .entries import NAME, OPERATOR, entry_key
 from .groups import all_of
+from .ledger import Ledger
 from .peers import SCRUB, Seat
 from .transfers import Failure
 
@@ -27,6 +29,17 @@ def shards_of(words: list[str]) -> list[str]:
     if not all(it and NAME.fullmatch(it[1]) for it in found):
         raise Failure("name nodes as NODE, or NODE*SHARDS", 2)
     return [it[1] for it in found if it for _ in range(int(it[2] or 1))]
+
+
+def arranged(now: Sequence[str], owners: Sequence[str]) -> list[str]:
+    """Returns these owners in an order in which each keeps as many of its shards as it can. What a shard holds stays
+    with its number, and a shard that moves is filled from the others: so only names and counts matter in a command."""
+    left, kept = collections.Counter(owners), list[str]()
+    for name in now:
+        kept.append(name if left[name] else "")
+        left[name] -= bool(left[name])
+    rest = left.elements()
+    return [name or next(rest) for name in kept]
 
 
 def must_be_equal(network: Network, owners: list[str], faults: int) -> None:
@@ -72,50 +85,70 @@ async def must_answer(network: Network, owners: list[str], faults: int, force: b
         raise Failure(f"{text}: nothing was begun; --force begins all the same", 1)
 
 
-def must_agree(text: str, words: argparse.Namespace) -> None:
+def must_agree(text: str, words: argparse.Namespace, nothing: str = "nothing was begun", does: str = "begins") -> None:
     """Asks at the terminal, unless `--yes` was given; raises `Failure` if the answer is not yes."""
     if words.yes:
         return
     if not sys.stdin.isatty():
-        raise Failure("nothing was begun, as there is no terminal to ask at: --yes begins without asking", 1)
+        raise Failure(f"{nothing}, as there is no terminal to ask at: --yes {does} without asking", 1)
     if input(f"{text} [y/N] ").strip().lower() not in ("y", "yes"):
-        raise Failure("nothing was begun", 1)
+        raise Failure(nothing, 1)
 
 
 async def hand_over(words: argparse.Namespace) -> int:
-    """Prints which blobs end with the epoch, and hands over to the next committee; returns once its epoch has begun."""
+    """Prints which blobs end with the epoch, and hands over to the next committee; returns once its epoch has begun.
+    With `--epoch` it may be repeated: it begins that epoch only, and does nothing if that has begun."""
     async with Network(words.folder, OPERATOR) as network:
-        ledger, epoch = network.ledger, network.ledger.epoch + 1
-        owners, needed = shards_of(words.owners or list(ledger.now)), 3 * ledger.faults + 1
+        ledger, epoch = network.ledger, words.epoch or network.ledger.epoch + 1
+        named, needed = shards_of(words.owners or list(ledger.now)), 3 * ledger.faults + 1
         if not ledger.now:
             raise Failure("there is no committee yet: walrus-net begin begins the first one", 1)
-        if len(owners) != needed:
-            raise Failure(f"name the nodes of {needed} shards, not of {len(owners)}", 2)
-        await must_answer(network, owners, ledger.faults, words.force)
+        if len(named) != needed:
+            raise Failure(f"name the nodes of {needed} shards, not of {len(named)}", 2)
+        if epoch > ledger.epoch + 1:
+            raise Failure(f"epoch {ledger.epoch + 1} comes next, not epoch {epoch}: nothing was begun", 1)
+        if epoch <= ledger.epoch:
+            return has_begun(ledger, epoch, named, words.json)
+        owners = arranged(ledger.writing, named)
+        await must_answer(network, named, ledger.faults, words.force)
         if sorted(owners) != sorted(ledger.now) and not words.concentrated:
             must_be_equal(network, owners, ledger.faults)
         ended = [it.hex() for it in ledger.blobs.ending(b"", epoch, len(ledger.blobs))]
         leave = {*ledger.now} - {*owners}
         if not words.json:
-            tell_of(network, owners, ended)
+            tell_of(network, owners, ended, owners != named)
         must_agree(f"begin epoch {epoch}?", words)
         begun = time.monotonic()
         await network.begin(ledger.faults, owners, epoch)  # not a later one, if another command began this
         if not await network.until(lambda it: it.epoch >= epoch, words.seconds):
             cause = network.away_since(begun) or "look at its nodes' logs"
-            raise Failure(f"epoch {epoch} has not begun after {words.seconds:g} s: {cause}", 1)
+            text = f"epoch {epoch} has not begun after {words.seconds:g} s: {cause}. The handover goes on; wait for it"
+            raise Failure(f"{text} with --epoch {epoch}, as this command would later begin epoch {epoch + 1}", 1)
         told = {"epoch": epoch, "nodes": owners, "ended": ended}
         text = f"epoch {epoch} has begun" + (SNAPSHOT if leave else "")
         print(json.dumps(told) if words.json else text)
     return 0
 
 
-def tell_of(network: Network, owners: list[str], ended: list[str]) -> None:
-    """Prints what a handover changes."""
+def has_begun(ledger: Ledger, epoch: int, named: list[str], as_json: bool) -> int:
+    """Prints that an epoch has begun before; raises `Failure` if the committee has other nodes than those named."""
+    if sorted(named) != sorted(ledger.now):
+        raise Failure(f"epoch {epoch} has begun, and the committee has other nodes than these: nothing was begun", 1)
+    told = {"epoch": ledger.epoch, "nodes": list(ledger.now), "ended": []}
+    print(json.dumps(told) if as_json else f"epoch {epoch} has begun before: nothing was begun")
+    return 0
+
+
+def tell_of(network: Network, owners: list[str], ended: list[str], reordered: bool) -> None:
+    """Prints what a handover changes; also which shards move if the names had another order than the shards."""
     ledger, old, new = network.ledger, {*network.ledger.now}, {*owners}
     for text, names in (("takes shards over", new - old), ("has no shards any more", old - new)):
         for name in sorted(names):
             print(f"{name} {text}")
+    if reordered:
+        moved = [f"{it} takes over shard {number}" for number, it in enumerate(owners) if it != ledger.now[number]]
+        more = [f"{len(moved) - NAMED} more shards move"] if moved[NAMED:] else []
+        print(f"the order of the names does not count: {', '.join(moved[:NAMED] + more) or 'no shard moves'}")
     for name in ended[:NAMED]:
         print(f"{name} ends with epoch {ledger.epoch}")
     if ended[NAMED:]:
@@ -142,16 +175,31 @@ async def begin(words: argparse.Namespace) -> int:
 
 
 async def post(words: argparse.Namespace) -> int:
-    """Sets the share of a name, or expels it; but not the operator, as no order would count any more."""
+    """Sets the share of a name, or expels it; but not the operator, as no order would count any more. Asks before it
+    expels a name, as that cannot be undone."""
     if words.command == "expel" and words.name == OPERATOR:
         text = "no epoch could begin any more, and that cannot be undone"
         raise Failure(f"{OPERATOR} cannot be expelled: {text} (network/OPERATING.md)", 2)
     fields = [words.name, words.blobs] if words.command == "share" else [words.name]
     text = f"{words.name} may register {words.blobs} blobs" if words.command == "share" else f"{words.name} is expelled"
     async with Network(words.folder, OPERATOR) as network:
+        if words.command == "expel":
+            if not words.json:
+                print(known_of(network.ledger, words.name), flush=True)
+            must_agree(f"expel {words.name} for ever?", words, f"{words.name} is not expelled", "expels it")
         place = await network.recorders.post(entry_key(OPERATOR, words.command, *fields))
     print(json.dumps({"name": words.name, "place": place}) if words.json else f"{text}, from place {place} on")
     return 0
+
+
+def known_of(ledger: Ledger, name: str) -> str:
+    """Returns what the ledger knows of a name, so that a misspelt one is noticed before it is expelled."""
+    shards, live = max(ledger.now.count(name), ledger.next.count(name)), ledger.blobs.posters()[name]
+    known = [f"{shards} shards, and {ledger.faults} may be lost"] if shards else []
+    known += [f"{live} live blobs"] if live else []
+    known += [f"a share of {ledger.shares[name]}"] if name in ledger.shares else []
+    known += [f"the address {ledger.addresses[name][0]}"] if name in ledger.addresses else []
+    return f"{name} has {', '.join(known)}" if known else f"the ledger knows nothing of {name}: is it spelt so?"
 
 
 async def plan(words: argparse.Namespace) -> int:

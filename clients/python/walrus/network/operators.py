@@ -30,14 +30,16 @@ def add_words(add: Add) -> None:
     told |= {"stale": (Options.stale, "seconds without the ledger until the gateway answers 503")} | exposure.WORDS
     port = {"host": ("127.0.0.1", "the gateway's address"), "port": (GATEWAY_PORT, "the gateway's port")}
     hands = {"seconds": (600.0, "how long to wait until the epoch has begun"), "yes": (False, "begin without asking")}
+    hands |= {"epoch": (0, "begin only this epoch, and do nothing if it has begun; otherwise the next one")}
     hands |= {"force": (False, "begin even if nodes of up to f shards do not answer")}
-    add("handover", "begin an epoch; NODE or NODE*SHARDS, or as now", "folder", "owners*", **hands, **heavy, **plain)
+    sure = {"yes": (False, "expel without asking")}
+    add("handover", "begin an epoch of NODE or NODE*SHARDS, or as now", "folder", "owners*", **hands, **heavy, **plain)
     add("begin", "begin the first epoch of a network that was founded", "folder", **plain)
     since = {"since": ("", "when this epoch began, such as 2026-11-29T12:00; now, if it is left out")}
     add("calendar", "plan how long an epoch is, such as 14d, or off", "folder", "length", **since, **plain)
     sub = add("share", "set how many live blobs a name may have", "folder", "name", **plain)
     sub.add_argument("--blobs", type=int, required=True, help="registrations in an epoch, with live blobs from before")
-    add("expel", "make everything void that a name posts from now on, for ever", "folder", "name", **plain)
+    add("expel", "make everything void that a name posts from now on, for ever", "folder", "name", **sure, **plain)
     add("scrub", "have a node read and verify all that it holds", "folder", "name", **plain)
 
     sub = add("found", "make the files of all machines of a network", "folder", "nodes*", **heavy)
@@ -127,8 +129,10 @@ async def add_more(words: argparse.Namespace) -> int:
 
 
 async def renew(words: argparse.Namespace) -> int:
+    made = Founding(words.folder)
+    made.must_have(words.names)
     with readable():
-        changed = Founding(words.folder).renew(words.names, words.within, words.days)
+        changed = made.renew(words.names, words.within, words.days)
     for path in changed:
         print(f"{path} is new")
     text = "copy its folder to each machine, and restart what runs there, one machine after the other"

@@ -140,6 +140,8 @@ class Recorder:
     async def read(self, head: str, others: list[Batch]) -> bool:
         """Reads batches up to a head, or some; returns whether that was all. Creates a ledger if there is none."""
         if not head:
+            if self.chain.place:  # this recorder must not found another one in its place
+                raise Broken(f"etcd has no ledger any more, of which this recorder has read {self.chain.place} entries")
             birth = secrets.token_hex(32)
             head, _ = await self.etcd.append("", json.dumps({"ledger": birth, "place": 0, "digest": birth}))
         told = json.loads(head)

@@ -16,9 +16,11 @@ from .recording import Service, etcd_of, wrong
 from .settings import RecorderSettings
 
 NOTHING = "the ledger is being restored: until recorders run again, no entries are taken and none are sent"
-EMPTY = "etcd has no ledger: restore the snapshot at all members of etcd first (network/OPERATING.md)"
+EMPTY = "etcd has no ledger with a committee: restore the snapshot at all members of etcd first (network/OPERATING.md)"
 OTHER = "etcd has other entries up to place {} than the nodes have heard, as a recorder has run over it meanwhile: "
 OTHER += "stop all recorders, and restore the snapshot at all members of etcd once more (network/OPERATING.md)"
+FEW = "nodes of {} shards have heard the snapshot and reported all that they have, and {} are needed: start the others "
+FEW += "and restore again; if they are lost, start the recorders, and what only they had is lost (network/OPERATING.md)"
 STRANGE = "{} heard more than the snapshot has, but had no shards in it, so nothing of that is believed: "
 STRANGE += "restore a later snapshot, or start the nodes that had shards then and restore again (network/OPERATING.md)"
 UNBELIEVED = (
@@ -35,7 +37,7 @@ class Restoring(Service):
         self.short: dict[str, int] = {}  # nodes that have not kept the next entry, and the place after which they have
         self.others = set[str]()  # nodes that have heard another ledger up to the end, or up to where they are
         self.strangers = set[str]()  # names that reported a tail, and had no shards up to the end
-        self.told, self.progress = asyncio.Event(), 0.0
+        self.told, self.progress, self.snapshot = asyncio.Event(), 0.0, 0  # `snapshot`: the place where that ends
 
     def routes(self) -> list[web.RouteDef]:
         entries = "/v1/entries"
@@ -88,10 +90,13 @@ class Restoring(Service):
         """Returns the names that have heard more, but have no shards up to the ledger's end."""
         return sorted((self.strangers | {*self.short}) - {*self.recorder.ledger.nodes})
 
+    def reported(self) -> int:
+        """Returns the number of shards whose nodes have heard all of the snapshot, and reported their tails."""
+        return sum(it in self.tails and self.places.get(it, 0) >= self.snapshot for it in self.recorder.ledger.now)
+
     def is_all(self) -> bool:
-        """Whether nodes of 2f+1 shards have heard all of the ledger, and reported their tails."""
-        ledger, end = self.recorder.ledger, self.recorder.chain.place
-        return sum(it in self.tails and self.places.get(it, 0) >= end for it in ledger.now) >= ledger.quorum
+        """Whether nodes of 2f+1 shards have reported all that they have."""
+        return self.reported() >= self.recorder.ledger.quorum
 
     def enough(self, names: list[str]) -> bool:
         """Whether these nodes have more than f shards of one committee, so that at least one of them is correct."""
@@ -114,14 +119,17 @@ class Restoring(Service):
         return found
 
     async def find_end(self, seconds: float, told: asyncio.Event) -> None:
-        """Reads the ledger in etcd up to its end; raises `Broken` if there is none. Waits up to `seconds` for etcd,
-        which may have just been started, unless a signal ends this."""
+        """Reads the ledger in etcd up to its end; raises `Broken` if there is none, or none with a committee. Waits up
+        to `seconds` for etcd, which may have just been started, unless a signal ends this."""
         last, said = time.monotonic() + seconds, ""
         while True:
             try:
-                if not await self.recorder.etcd.head():
+                if await self.recorder.etcd.head():
+                    await self.recorder.catch_up()
+                if not self.recorder.ledger.now:  # a recorder that ran over an empty etcd has founded another one
                     raise Broken(EMPTY)
-                return await self.recorder.catch_up()
+                self.snapshot = self.recorder.chain.place
+                return
             except Failed as fault:
                 if told.is_set() or time.monotonic() > last:
                     raise
@@ -169,11 +177,11 @@ async def serve(settings: RecorderSettings, seconds: float) -> int:
                 first = service.short.get(name)
                 print(f"{name} {f'has kept nothing before place {first}' if first else 'was silent at the end'}")
         print(f"{count or 0} entries are back; the ledger ends at place {recorder.chain.place}", flush=True)
-        status = 0 if count is not None else 1
         if not count and (strangers := service.unbelieved()):
-            text, status = (UNBELIEVED, status) if service.is_all() else (STRANGE, 1)
-            print(text.format(", ".join(strangers)), file=sys.stderr)
-        return status
+            print((UNBELIEVED if service.is_all() else STRANGE).format(", ".join(strangers)), file=sys.stderr)
+        elif not service.is_all():
+            print(FEW.format(service.reported(), recorder.ledger.quorum), file=sys.stderr)
+        return 0 if count is not None and service.is_all() else 1
     except (Broken, Failed, OSError) as fault:
         print(f"the ledger is not restored: {fault}", file=sys.stderr)
         return 1
