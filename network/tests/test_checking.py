@@ -1,6 +1,7 @@
 """Checks of a machine before its services start, and what a service tells its manager."""
 import asyncio
 import contextlib
+import datetime
 import io
 import os
 import shutil
@@ -11,7 +12,7 @@ from unittest import mock
 
 from founding_case import FoundingCase
 from walrus.network import certificates, configuration, notify
-from walrus.network.checking import check
+from walrus.network.checking import check, faults_of_https
 from walrus.network.settings import Settings
 
 
@@ -56,6 +57,26 @@ class Check(FoundingCase):
             _, wrong, later = check(self.path)
             self.assertEqual((len(wrong), len(later)), (faults, soon), (wrong, later))
             self.assertIn("renew it", [*wrong, *later][0])
+
+    async def test_a_certificate_that_is_not_valid_yet_is_wrong(self) -> None:
+        """The clock was two hours fast where it was made."""
+        fast = mock.patch.object(certificates, "EARLIER", certificates.EARLIER - datetime.timedelta(hours=2))
+        for name in ("alpha", "authority"):
+            with self.subTest(name=name):
+                with fast:
+                    if name == "authority":
+                        certificates.make_authority(self.folder / name)
+                        shutil.copyfile(self.folder / f"{name}.crt", self.etc / f"{name}.crt")
+                    else:
+                        certificates.make(self.etc / name, self.folder / "authority", name, [name])
+                _, wrong, later = check(self.path)
+                self.assertEqual((len(wrong), later), (1, []), wrong)
+                self.assertRegex(wrong[0], f"{name}.crt is not valid before .* UTC: set the clock here if it is slow; ")
+                certificates.make(self.etc / "alpha", self.folder / "authority", "alpha", ["alpha"])
+        with fast:
+            certificates.make(self.folder / "own", self.folder / "authority", "gate", ["gate"])
+        told = {"tls_certificate": str(self.folder / "own.crt"), "tls_key": str(self.folder / "own.key")}
+        self.assertRegex(*faults_of_https(told), "own.crt is not valid before .* UTC: set the clock")
 
     async def test_a_service_reads_keys_where_its_manager_puts_them(self) -> None:
         given = self.folder / "given"

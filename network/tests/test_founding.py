@@ -252,6 +252,20 @@ class Changed(FoundingCase):
         self.assertLess(certificates.days_left(after), 9)
         self.assertEqual(self.faults_of(path), [])
 
+    async def test_with_a_slow_clock_nothing_is_renewed_and_with_a_right_one_what_a_fast_one_made(self) -> None:
+        with mock.patch.object(certificates, "EARLIER", datetime.timedelta(hours=-1)):
+            await self.found()
+        before = {path: path.read_bytes() for path in self.folder.rglob("*.crt")}
+        for named, late in (([], "authority"), (["alpha"], "authority"), (["authority"], "etcd-authority")):
+            text = f"/{late}.crt is not valid before .* UTC: set the clock here if it is slow; .*/net {late}\\)$"
+            with self.subTest(named=named), self.assertRaisesRegex(Unfounded, text):
+                await self.says("renew", self.folder, *named)
+            self.assertEqual({path: path.read_bytes() for path in before}, before)
+        await self.says("renew", self.folder, "authority", "etcd-authority")
+        await self.says("renew", self.folder)
+        self.assertEqual([path for path in before if certificates.early(certificates.read(path))], [])
+        self.assertIn("no certificate expires so soon", await self.says("renew", self.folder))
+
     def faults_of(self, path: pathlib.Path) -> list[str]:
         return certificates.faults_of(path, path.with_suffix(".key"), self.folder / "authority.crt", None)
 

@@ -28,7 +28,8 @@ class Streams(LedgerCase):
         await self.copy_certificates()
         self.streams, self.asked, self.posts = list[tuple[int, list[object]]](), list[int](), list[tuple[int, object]]()
         app = web.Application()
-        app.add_routes([web.get("/v1/entries", self.follow), web.post("/v1/entries", self.take)])
+        app.add_routes([web.get("/v1/entries", self.follow)])
+        app.add_routes([web.post(f"/v1/{it}", self.take) for it in ("entries", "tail")])
         runner = web.AppRunner(app)
         await runner.setup()
         self.addAsyncCleanup(runner.cleanup)
@@ -84,6 +85,21 @@ class Streams(LedgerCase):
                 await asyncio.wait_for(view.follow(), 20)
             with self.assertRaisesRegex(Unreachable, "the ledger is not followed any more: " + said.strip("^$")):
                 await waits
+
+    async def test_a_tail_goes_to_the_recorder_that_asked_for_it(self) -> None:
+        """Although a post, which a restore answers with 503, has turned to another one meanwhile."""
+        self.streams, self.posts = [(200, [{"tail": 3, "error": "it is being restored"}])], [(200, {})]
+        self.recorders.known.append((f"https://{follower.NAME}:1/v1/", self.recorders.known[0][1]))
+
+        def tail(place: int, count: int) -> list[Entry]:
+            self.recorders.at = 1
+            return [Entry(place + 1, "a/ready/1")]
+
+        self.recorders.at, self.recorders.tail = 0, tail
+        with self.assertRaisesRegex(Unreachable, "^it is being restored$"):
+            async for _ in self.recorders.stream(None, ""):
+                pass
+        self.assertEqual((self.recorders.at, self.posts), (1, []))
 
     async def test_a_post_is_tried_again_until_it_is_answered(self) -> None:
         again = [(503, {"error": "etcd is slow"}), (500, "?"), (200, []), (200, {"error": 1}), (429, {"error": "busy"})]

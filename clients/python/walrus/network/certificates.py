@@ -107,6 +107,13 @@ def days_left(certificate: x509.Certificate) -> float:
     return (certificate.not_valid_after - datetime.datetime.utcnow()).total_seconds() / 86_400
 
 
+def early(certificate: x509.Certificate) -> str:
+    """Returns the predicate that a certificate is not valid yet, with what to do first; an empty text if it is."""
+    begin = certificate.not_valid_before
+    is_early = begin > datetime.datetime.utcnow()
+    return f"is not valid before {begin:%Y-%m-%d %H:%M} UTC: set the clock here if it is slow" if is_early else ""
+
+
 def is_signed(certificate: x509.Certificate, authority: x509.Certificate) -> bool:
     """Whether an authority has signed a certificate."""
     key, algorithm = authority.public_key(), certificate.signature_hash_algorithm
@@ -132,6 +139,8 @@ def faults_of(certificate: pathlib.Path, key: pathlib.Path, authority: pathlib.P
     for path, it in ((certificate, own), (authority, signer)):
         if isinstance(it, x509.Certificate) and days_left(it) < 0:
             faults.append(f"{path} has expired on {it.not_valid_after:%Y-%m-%d}: renew it (walrus-net renew)")
+        if isinstance(it, x509.Certificate) and (text := early(it)):
+            faults.append(f"{path} {text}; if it was fast where this was made, renew it there (walrus-net renew)")
     if isinstance(own, x509.Certificate):
         if isinstance(owner, Key) and public(own) != public(owner):
             faults.append(f"{key} is not the key of {certificate}")

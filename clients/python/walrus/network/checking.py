@@ -100,6 +100,8 @@ def faults_of_https(told: dict[str, Any]) -> list[str]:
         return [f"{key} is not the key of {own}, or has a password: {fault}"]
     except (OSError, ValueError) as fault:
         return [str(fault)]
+    if text := certificates.early(found):
+        return [f"{own} {text}"]
     left = certificates.days_left(found)
     return [f"{own} has expired on {found.not_valid_after:%Y-%m-%d}"] if left < 0 else []
 

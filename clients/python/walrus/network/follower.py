@@ -110,7 +110,7 @@ class Recorders:
             self.waiting, at = waiting, self.at
             texts = fitting((text for text, _ in waiting[:MOST]), MOST_BYTES)
             try:
-                status, told = await asyncio.create_task(self.ask("entries", texts))
+                status, told = await asyncio.create_task(self.ask("entries", texts, at))
                 if status in (400, 403, 413):  # it refuses all of them
                     told = [{"refused": told["error"]}] * len(texts)
                 elif status != 200 or len(told) != len(texts):
@@ -124,9 +124,9 @@ class Recorders:
                 if not taken.done():
                     taken.set_exception(answer) if isinstance(answer, Refused) else taken.set_result(answer)
 
-    async def ask(self, path: str, body: object) -> tuple[int, Any]:
-        """Posts to a recorder; returns the status of its answer, and the answer."""
-        url, session = self.known[self.at]
+    async def ask(self, path: str, body: object, at: int) -> tuple[int, Any]:
+        """Posts to one of the recorders, by its index; returns the status of its answer, and the answer."""
+        url, session = self.known[at]
         limit = aiohttp.ClientTimeout(total=30, sock_connect=CONNECT)
         async with session.post(url + path, json=body, timeout=limit) as said:
             return said.status, await said.json(content_type=None)
@@ -158,7 +158,7 @@ class Recorders:
 
     async def stream(self, chain: Optional[Chain], ledger: str) -> AsyncIterator[News]:
         """Yields the news of one recorder, until it ends or is silent for too long."""
-        (url, session), place = self.known[self.at], chain.place if chain else 0
+        (url, session), place = self.known[at := self.at], chain.place if chain else 0
         limit = aiohttp.ClientTimeout(total=None, sock_connect=CONNECT, sock_read=SILENCE)
         async with session.get(f"{url}entries", params={"after": str(place)}, timeout=limit) as said:
             read = said.content.readline
@@ -167,7 +167,7 @@ class Recorders:
                 entries = self.tail(place := told["tail"], 4 * MOST)
                 after = entries[0].revision - 1 if entries else place
                 body = {"after": after, "digest": self.digest(after)}
-                await self.ask("tail", body | {"entries": fitting((it.key for it in entries), MOST_BYTES)})
+                await self.ask("tail", body | {"entries": fitting((it.key for it in entries), MOST_BYTES)}, at)
                 raise Unreachable(told["error"])
             if said.status != 200:
                 kind = {403: Refused, 409: Parted}.get(said.status, ConnectionError)

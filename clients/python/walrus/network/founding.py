@@ -164,7 +164,13 @@ class Founding:
     def renew(self, named: Sequence[str], within: float, days: float) -> list[pathlib.Path]:
         """Renews the named certificates, or those that expire within some days; returns the paths that changed. `days`
         is how long new ones are valid, except those of authorities. Copies of an authority's certificate that differ
-        from the one here are always replaced, as an earlier run may have been interrupted."""
+        from the one here are always replaced, as an earlier run may have been interrupted. Raises if an authority that
+        is not named is not valid yet: by a slow clock nothing would seem to expire."""
+        for name in (AUTHORITY, ETCD_AUTHORITY):
+            text = certificates.early(certificates.read(path := self.folder / f"{name}.crt"))
+            if text and name not in named:
+                text += f"; if it was fast when this was made, renew it by name (walrus-net renew {self.folder} {name})"
+                raise Unfounded(f"{path} {text}")
         changed = []
         for name in (AUTHORITY, ETCD_AUTHORITY):
             path = self.folder / f"{name}.crt"
@@ -180,7 +186,7 @@ class Founding:
             if path.stem in (AUTHORITY, ETCD_AUTHORITY):
                 continue
             old = certificates.read(path)
-            if path.stem in named or not named and certificates.days_left(old) < within:
+            if path.stem in named or not named and (certificates.days_left(old) < within or certificates.early(old)):
                 by = ETCD_AUTHORITY if path.stem == "etcd" else AUTHORITY
                 known, name = certificates.names_of(old), certificates.common_name(old)
                 certificates.make(path.with_suffix(""), self.folder / by, name, known, days)
