@@ -178,7 +178,7 @@ async def has_heard(path: pathlib.Path, place: int) -> None:
     """Waits until a node's copy of the ledger, which may not be there yet, has come to a place."""
     while True:
         with contextlib.suppress(sqlite3.OperationalError):
-            with contextlib.closing(sqlite3.connect(f"file:{path}?mode=ro", uri=True)) as base:
+            with contextlib.closing(sqlite3.connect(f"{path.resolve().as_uri()}?mode=ro", uri=True)) as base:
                 if any(json.loads(value)["place"] >= place for value, in base.execute("SELECT value FROM told")):
                     return
         await asyncio.sleep(0.1)

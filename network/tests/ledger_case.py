@@ -39,8 +39,8 @@ class Listed(Owed):
     def __init__(self, names: list[bytes]):
         self.listed = names
 
-    def __iter__(self) -> Iterator[bytes]:
-        return iter(self.listed)
+    def pages(self, count: int) -> Iterator[list[bytes]]:
+        return (self.listed[place : place + count] for place in range(0, len(self.listed), count))  # noqa: E203
 
 
 @unittest.skipIf(shutil.which("etcd") is None, "etcd is not here")

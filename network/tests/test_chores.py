@@ -210,6 +210,18 @@ class Sweeps(DiskCase):
             await self.until(lambda: not self.held())
 
 
+class Expiry(DiskCase):
+    async def test_expired_blobs_are_dropped_a_few_at_a_time(self) -> None:
+        """Otherwise a node on a busy machine stops for half a second, again and again, after an epoch change."""
+        self.node.ledger, over = mock.Mock(epoch=1), [*NAMES, *(bytes([9, it]) * 16 for it in range(150))]
+        self.node.ledger.blobs.over = lambda count: over[:count]
+        self.node.ledger.blobs.drop = lambda dropped: over.__delitem__(slice(len(dropped)))
+        with mock.patch.object(self.store, "expire", wraps=self.store.expire) as expire:
+            await self.scrub.expire()
+        self.assertEqual((over, self.held()), ([], 0))
+        self.assertLessEqual(max(len(it.args[0]) for it in expire.call_args_list), 50)
+
+
 class Scrubs(DiskCase):
     async def scrubbed(self, fails: int) -> list[bytes]:
         """Return the blobs that a scrub has checked; the check of the second one fails `fails` times."""

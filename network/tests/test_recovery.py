@@ -111,6 +111,25 @@ class Left(NodeCase):
         turning.cancel()
         self.assertLessEqual(most, 200)  # two for each blob of a page
 
+    async def test_blobs_that_are_not_owed_are_passed_over_in_steps(self) -> None:
+        """Otherwise a node reads all live blobs without a certificate in one go, in each round of a handover."""
+        turned, node, name = 0, self.node({0: {0: self.shard}}), await self.lacks(60)
+        for number in range(500):
+            self.apply("x", "register", f"{number:064x}", 9)
+
+        async def turns() -> None:
+            nonlocal turned
+            while True:
+                turned += 1
+                await asyncio.sleep(0)
+
+        turning = asyncio.create_task(turns())
+        with mock.patch.object(recovery, "PAGE", 50), mock.patch.object(self.store, "settled", return_value=set()):
+            found = [it async for it in recovery.lacking(node, 0, self.ledger.blobs.owed(0, 0))]
+        turning.cancel()
+        self.assertEqual(([[it.identifier for it in some] for some in found], turned >= 10), ([[name]], True))
+        self.assertEqual([*self.ledger.blobs.owed(0, 0)], [name])
+
     async def test_where_very_many_are_lacking_all_are_recovered_and_none_is_waited_for(self) -> None:
         names, node, some = [await self.lacks(60) for _ in range(5)], self.node({0: {0: self.shard}}), self.ledger.blobs
         node.until, node.settings = mock.AsyncMock(), types.SimpleNamespace(heal=3_600)

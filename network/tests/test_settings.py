@@ -63,6 +63,8 @@ class Values(SettingsCase):
             ("alpha", "scrub", "nan", "scrub must be at least 0, not nan"),
             ("alpha", "reserve", "5", "reserve is a fraction of the disk, at most 1, and not 5"),
             ("alpha", "reserve", "-0.5", "reserve must be at least 0"),
+            ("alpha", "database", '"a.ledger"', "database must not end with .ledger: the node keeps its ledger"),
+            ("alpha", "database", '"/srv/a.parts"', "database must not end with .parts"),
             ("alpha", "connections", "0", "connections must be at least 1"),
             ("alpha", "memory", "-1", "memory must be at least 0"),
             ("recorder", "patience", "-1", "patience must be at least 0"),

@@ -1,11 +1,14 @@
 """A shard's database that an earlier version made, as a node starts."""
+import asyncio
+import pathlib
 import sqlite3
+import tempfile
 import unittest
 from unittest import mock
 
 from harness import lacking
 from shard_case import LARGE, ShardCase
-from walrus.frames import METADATA
+from walrus.frames import METADATA, PRIMARY, SECONDARY
 from walrus.network.store import Store
 
 
@@ -60,6 +63,22 @@ class Older(ShardCase):
         base.close()
         with self.assertRaisesRegex(OSError, "later version"):
             Store(self.path)
+
+
+class Places(unittest.IsolatedAsyncioTestCase):
+    async def test_the_folder_of_a_database_may_have_any_name(self) -> None:
+        """A thread opens the database by a URI, in which some characters have a meaning."""
+        asyncio.get_running_loop().set_debug(False)
+        folder = pathlib.Path(self.enterContext(tempfile.TemporaryDirectory(prefix="walrus-starts-")))
+        for place in ("a#1", "what?mode=rw", "my%20disk"):
+            (folder / place).mkdir()
+            store = Store(folder / place / "a.db")
+            self.addCleanup(store.close)
+            store.begin(0, 0)
+            for part in (METADATA, PRIMARY, SECONDARY):
+                store.put(1, 0, bytes(32), part, b"content", None)
+            self.assertEqual(await store.settled(1, 0), {bytes(32)})
+        self.assertEqual(len([*folder.iterdir()]), 3)
 
 
 if __name__ == "__main__":

@@ -53,8 +53,8 @@ class Record:
 
     @classmethod
     def read(cls, path: pathlib.Path) -> "Record":
-        base = sqlite3.connect(f"file:{path}?mode=ro", uri=True)
-        tail = sqlite3.connect(f"file:{path.resolve().with_suffix('.ledger')}?mode=ro", uri=True)
+        base = sqlite3.connect(f"{path.resolve().as_uri()}?mode=ro", uri=True)
+        tail = sqlite3.connect(f"{path.resolve().with_suffix('.ledger').as_uri()}?mode=ro", uri=True)
         try:
             entries = [Entry(*row) for row in tail.execute("SELECT place, text FROM entries ORDER BY place")]
             words = "SELECT place, revision, epoch, shard, request, reply FROM history ORDER BY place"

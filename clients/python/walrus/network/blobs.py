@@ -2,6 +2,7 @@
 import collections
 import contextlib
 import dataclasses
+import itertools
 import json
 import random
 import sqlite3
@@ -247,16 +248,21 @@ class Blobs(Mapping[bytes, Blob]):
 
 
 class Owed:
-    """The blobs of `Blobs.owed`. Each iteration reads them from the database page by page, as they may be many."""
+    """The blobs of `Blobs.owed`. Each iteration reads the database page by page, as they may be many."""
 
     def __init__(self, blobs: Blobs, until: int, certified: int):
         self.blobs, self.values = blobs, (until, certified)
 
     def __iter__(self) -> Iterator[bytes]:
-        words, after = "until > ? AND certified <= ? AND identifier > ? ORDER BY identifier LIMIT 1000", b""
-        while page := self.blobs.names(words, *self.values, after):
-            yield from page
-            after = page[-1]
+        return itertools.chain.from_iterable(self.pages(1_000))
+
+    def pages(self, count: int) -> Iterator[list[bytes]]:
+        """Yields them in lists, some possibly empty: each one reads `count` rows, also those of blobs not owed."""
+        words, after = "SELECT identifier, until > ? AND certified <= ? FROM blobs WHERE identifier > ?", b""
+        words += " ORDER BY identifier LIMIT ?"
+        while page := self.blobs.flush().execute(words, (*self.values, after, count)).fetchall():
+            after = page[-1][0]
+            yield [identifier for identifier, is_owed in page if is_owed]
 
 
 class Over(Blobs):

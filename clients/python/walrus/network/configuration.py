@@ -68,6 +68,8 @@ def faults_of_values(values: Mapping[str, Any]) -> list[str]:
     for name, value in values.items():
         if type(value) in (int, float) and not value >= LEAST.get(name, 0):
             faults.append(f"{name} must be at least {LEAST.get(name, 0)}, not {value}")
+    if (suffix := pathlib.Path(values.get("database", "")).suffix) in (".ledger", ".parts"):
+        faults.append(f"database must not end with {suffix}: the node keeps its {suffix[1:]} beside it under that name")
     if values.get("reserve", 0) > 1:
         faults.append(f"reserve is a fraction of the disk, at most 1, and not {values['reserve']}")
     bad = [it for it in values.get("proxies", []) if not is_address(it)]

@@ -3,11 +3,15 @@ import asyncio
 import concurrent.futures
 import contextlib
 import fcntl
+import pathlib
+import shutil
 import sqlite3
 import sys
 from typing import Callable, Optional, Sequence
 
 from .notify import extending
+
+ROOM = 1_048_576  # bytes that must be free before a disk that was full is tried again
 
 
 class Database:
@@ -43,6 +47,12 @@ class Database:
         if str(fault) != self.fault:
             print(f"the disk does not take {self.name}: {fault}; it is tried again", file=sys.stderr, flush=True)
         self.fault = str(fault)
+
+    def is_full(self) -> bool:
+        """Return whether a write failed and the disk has no room now, so that another one would fail too."""
+        with contextlib.suppress(OSError):  # a disk that does not say so is tried
+            return bool(self.fault) and shutil.disk_usage(pathlib.Path(self.name).parent).free < ROOM
+        return False
 
     async def aside(self, work: Callable[[], object]) -> None:
         """Run long work over the connection in a thread. Nothing else may use it meanwhile; `close` waits for it."""

@@ -126,6 +126,8 @@ class Recorder:
 
     async def step(self, batch: Optional[Batch] = None) -> bool:
         """Appends a batch if the ledger in etcd ends here, or else reads on; returns whether it ended here."""
+        if not self.state.takes_more():
+            raise Failed(f"the disk does not take {self.state.name}: {self.state.fault}")
         begun, known = time.monotonic(), self.head(self.chain)
         wanted, self.own = (self.head(batch.after), batch.last) if batch else (known, 0)
         head, others = await self.etcd.append(known, wanted, batch) if batch else (await self.etcd.head(), [])
@@ -154,7 +156,7 @@ class Recorder:
         try:
             if told["place"] > self.chain.place and not others:
                 others = await self.etcd.batches(self.chain.place)
-            for batch in others:
+            for batch in itertools.takewhile(lambda _: self.state.takes_more(), others):
                 self.enter(batch)
         except Gone:
             await self.take()

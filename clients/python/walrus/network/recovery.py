@@ -6,7 +6,7 @@ import functools
 import itertools
 import sqlite3
 import sys
-from collections.abc import AsyncIterator, Awaitable, Callable, Collection, Iterable, Sequence
+from collections.abc import AsyncIterator, Awaitable, Callable, Collection, Iterable, Iterator, Sequence
 from typing import TYPE_CHECKING, NamedTuple, Optional
 
 from .. import client, frames
@@ -131,14 +131,19 @@ async def settle(node: "Node", epoch: int, owed: Collection[bytes] | Owed) -> in
     return left if kept else max(1, left)  # the disk has lost something that it had before
 
 
+def paged(names: Iterator[bytes]) -> Iterator[list[bytes]]:
+    while some := [*itertools.islice(names, PAGE)]:
+        yield some
+
+
 async def lacking(node: "Node", epoch: int, owed: Iterable[bytes] | Owed) -> AsyncIterator[list[Lack]]:
     """Yield lists of what the node's shards of an epoch want of these blobs, each of about MANY at most. They are found
     page by page, so that other tasks get turns. Of an `Owed` most are there, so one query reads those of a page."""
-    shards, names, lacks = [*node.sides.get(epoch, {}).values()], iter(owed), list[Lack]()
-    while some := [*itertools.islice(names, PAGE)]:
+    shards, lacks = [*node.sides.get(epoch, {}).values()], list[Lack]()
+    for some in owed.pages(PAGE) if isinstance(owed, Owed) else paged(iter(owed)):
         for shard in shards:
             held = set[bytes]()
-            if isinstance(owed, Owed):
+            if isinstance(owed, Owed) and some:
                 held = await node.store.settled(shard.holding, epoch, some[0], some[-1])
             lacks += [Lack(shard, it) for it in some if it not in held and shard.wants(it)]
             if len(lacks) >= MANY:

@@ -18,7 +18,7 @@ if TYPE_CHECKING:
     from .node import Node
 
 DAY, PAUSE, LOOKED = 86_400.0, 2.0, 60.0  # seconds: a day; until a retry; until the clock is read again
-AT_ONCE = 500  # expired blobs that are dropped in one step
+AT_ONCE = 50  # expired blobs that are dropped in one step; 500 held the loop for 0.05 s, and 0.5 s on a busy machine
 LEAST = 65_536  # bytes that the rate counts for a blob at least, as anybody may store many small ones
 TRIES = 30  # checks of a blob that may fail, such as for lack of memory or a descriptor, before it is skipped
 

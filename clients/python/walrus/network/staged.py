@@ -188,7 +188,7 @@ class Staged(Database):
             await asyncio.sleep(1)
 
     def reader(self) -> sqlite3.Connection:
-        return sqlite3.connect(f"file:{self.path}?mode=ro", uri=True)
+        return sqlite3.connect(f"{self.path.as_uri()}?mode=ro", uri=True)  # quotes what has a meaning in a URI
 
     async def asked(self, ask: Callable[[sqlite3.Connection], Result]) -> Result:
         """Return the result of a query that may take long, run in a thread with a read-only connection of its own."""
