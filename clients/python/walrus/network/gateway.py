@@ -126,6 +126,7 @@ class Gateway(Server):
         app.add_routes([web.get("/v1/rights", self.rights)])
         app.add_routes([web.get(path, self.page) for path in PAGES])
         context = self.certificate.context if self.certificate else None
+        self.reader.keeping = asyncio.create_task(self.reader.keep_room())
         return await self.serve(app, host, port, self.options.connections, context)
 
     async def close(self) -> None:
