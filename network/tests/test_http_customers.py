@@ -94,7 +94,18 @@ class Customers(GuardCase):
         ):
             path.write_text(bad)
             with self.assertRaisesRegex(ValueError, "tokens.json has no tokens that can be read"):
-                tokens.Tokens(path)
+                tokens.Tokens(path, path)
+
+    async def test_a_file_of_tokens_that_is_named_must_be_there(self) -> None:
+        """Otherwise anyone may read if its name is misspelt or it is lost. The default one may be made later."""
+        named = self.folder / "named.json"
+        with self.assertRaisesRegex(ValueError, "named.json is not there: bring it back, or make a first token"):
+            await self.start(tokens=str(named))
+        tokens.change_token(named, "alice", {"rights": ["store"]})
+        await self.start(tokens=str(named))
+        self.assertEqual(await self.put(), 401)
+        await self.start(tokens=str(self.folder / "." / "tokens.json"))
+        self.assertEqual(await self.put(), 201)
 
     async def test_a_share_ends(self) -> None:
         alice, bob = self.token("alice", bytes=1_000, blobs=4), self.token("bob", epochs=3)

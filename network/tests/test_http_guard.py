@@ -1,6 +1,9 @@
 """Access to a gateway without tokens, by pages of other origins and strangers; its log, and TLS."""
 import asyncio
 import contextlib
+import io
+import json
+import logging
 import re
 import ssl
 import unittest
@@ -182,6 +185,41 @@ class Logs(GuardCase):
         self.assertTrue(told[3][1].startswith("GET /\\x22\\x5cx"), told[3])
         self.assertEqual((len(lines), log.read_text().count("\n")), (5, 1))
         self.assertNotIn(alice["Authorization"][7:], "".join(lines))
+
+    async def test_a_log_that_cannot_be_written_ends_no_connection(self) -> None:
+        folder, full = self.folder / "logs", OSError(28, "No space left on device")
+        folder.mkdir()
+        await self.start(log=str(folder / "access.log"))
+        said = self.enterContext(contextlib.redirect_stderr(io.StringIO()))
+        reader, writer = await asyncio.open_connection("127.0.0.1", self.port)
+
+        async def ask(number: int, lines: int, log: str = "") -> None:
+            """Sends a request, and waits for its line in this log and for this many lines on standard error."""
+            writer.write(b"GET /livez?%d HTTP/1.1\r\nHost: x\r\n\r\n" % number)
+            async with asyncio.timeout(60):
+                self.assertIn(b" 400 ", await reader.readline())
+                while await reader.readline() != b"\r\n":
+                    pass
+                self.assertTrue(json.loads(await reader.readline()))
+                while said.getvalue().count("\n") < lines or log and f"?{number} " not in (folder / log).read_text():
+                    await asyncio.sleep(0.05)
+
+        await ask(1, 0, "access.log")
+        folder.rename(self.folder / "moved")
+        await ask(2, 1)
+        await ask(3, 1)
+        (self.folder / "moved").rename(folder)
+        await ask(4, 1, "access.log")
+        with mock.patch.object(logging.StreamHandler, "flush", side_effect=full):
+            await ask(5, 2)
+            await ask(6, 2)
+        await ask(7, 2, "access.log")
+        writer.close()
+        self.assertNotIn("?2 ", (folder / "access.log").read_text())
+        lines = said.getvalue().splitlines()
+        self.assertEqual([line.partition(": ")[0] for line in lines], ["the access log lacks lines from here on"] * 2)
+        self.assertIn("No such file or directory", lines[0])
+        self.assertIn("No space left on device", lines[1])
 
     async def test_tls(self) -> None:
         make_authority(self.folder / "authority-web")

@@ -114,6 +114,13 @@ class Values(SettingsCase):
         self.assertEqual(told.log, str(self.folder / "a.log"))
         self.assertEqual(GatewaySettings.read(self.change("gate", log='"-"')).log, "-")
 
+    async def test_a_file_of_tokens_that_is_named_must_be_there(self) -> None:
+        self.assertEqual(check(self.change("gate", tokens='"tokens.json"'))[1], [])  # the default one
+        [fault] = check(path := self.change("gate", tokens='"tokns.json"'))[1]
+        self.assertIn(f"tokens: {self.folder}/tokns.json is not there", fault)
+        (self.folder / "tokns.json").write_text("{}")
+        self.assertEqual(check(path)[1], [])
+
     async def test_the_pair_for_https_is_opened(self) -> None:
         own = {"tls_certificate": '"web.crt"', "tls_key": '"web.key"'}
         path = self.change("gate", **own)

@@ -20,11 +20,12 @@ PATCH = {"Content-Type": "application/partial-upload"}
 class UploadCase(GuardCase):
     """A gateway with pieces of 1,000 bytes, or `size`. `blobs` has what was stored; `away` is why storing fails."""
 
-    size = SIZE
+    size, fresh = SIZE, -1.0  # seconds for which a list of the uploads is used again
 
     async def start(self, host: str = "127.0.0.1", **options: Any) -> None:
         for module in (unfinished, chunks, shares):
             self.enterContext(mock.patch.object(module, "PIECE", self.size))
+        self.enterContext(mock.patch.object(unfinished, "FRESH", self.fresh))
         await super().start(host, **options)
         self.blobs, self.away, self.kept = list[bytes](), "", Blobs()
         self.enterContext(mock.patch.object(self.network.ledger, "certificate", self.certificate))

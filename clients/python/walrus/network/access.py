@@ -31,11 +31,32 @@ def escaped(text: str) -> str:
     return "".join(it if " " <= it <= "~" and it not in '"\\' else f"\\x{ord(it):02x}" for it in text)
 
 
+class LogFile(logging.handlers.WatchedFileHandler):
+    """A log file that may be moved away. While it cannot be written or opened again, its lines are lost and requests go
+    on; each new cause is printed once on standard error."""
+
+    cause = said = ""
+
+    def emit(self, record: logging.LogRecord) -> None:
+        self.cause = ""
+        try:
+            super().emit(record)
+        except OSError as fault:  # it cannot be opened again
+            self.cause = str(fault)
+        if self.cause not in ("", self.said):
+            print(f"the access log lacks lines from here on: {self.cause}", file=sys.stderr, flush=True)
+        self.said = self.cause
+
+    def handleError(self, record: logging.LogRecord) -> None:
+        """Notes why a line could not be written, as on a full disk; the base class would print a traceback."""
+        self.cause = str(sys.exc_info()[1])
+
+
 def log_to(place: str) -> Optional[logging.Logger]:
     """Returns the log in a file, which may be moved away meanwhile, or on standard output (`-`); None for no name."""
     if not place:
         return None
     log = logging.Logger("walrus.access", logging.INFO)
     to: logging.Handler = logging.StreamHandler(sys.stdout)
-    log.addHandler(to if place == "-" else logging.handlers.WatchedFileHandler(place))
+    log.addHandler(to if place == "-" else LogFile(place))
     return log

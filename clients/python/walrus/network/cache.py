@@ -26,6 +26,11 @@ class Entry:
     size: int = client.LARGEST_BLOB + EXTRA
     users: int = 0
 
+    def droppable(self) -> int:
+        """Returns the bytes of the disk that are free once this is dropped; 0 if it is used, or not in a file."""
+        unused = self.task.done() and not self.users and not self.task.cancelled() and not self.task.exception()
+        return len(self.task.result()) if unused and is_away(self.task.result()) else 0
+
 
 class Cache:
     """Blobs by identifier, within `room` bytes, in which those being read and those being sent count too."""
@@ -76,6 +81,15 @@ class Cache:
                 return False
             self.size -= self.entries.pop(unused).size
         return True
+
+    def give_way(self, size: float) -> bool:
+        """Drops unused blobs in files, the least recently wanted first, until that frees `size` bytes of the disk.
+        Returns whether it does."""
+        for identifier, entry in [*self.entries.items()] if size > 0 else []:
+            if size > 0 and (freed := entry.droppable()):
+                self.size -= self.entries.pop(identifier).size
+                size -= freed
+        return size <= 0
 
     async def load(self, identifier: bytes, size: int) -> bytes:
         async with self.turns:

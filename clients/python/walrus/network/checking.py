@@ -6,7 +6,7 @@ import ssl
 import stat
 from typing import Any
 
-from . import certificates, units
+from . import certificates, tokens, units
 from .configuration import Role, Wrong, faults_in, located, values_of
 from .machine import is_known_to_tls
 from .settings import GatewaySettings, RecorderSettings, Settings
@@ -30,6 +30,9 @@ def check(path: pathlib.Path) -> tuple[str, list[str], list[str]]:
         return role, faults, []
     told = {**values, **{it: located(path, values[it]) for it in kind.paths if values.get(it)}}
     faults += faults_of_places(told) + faults_of_files(told) + faults_of_keys(told) + faults_of_https(told)
+    if told.get("tokens"):
+        default = pathlib.Path(told["authority"]).with_name("tokens.json")
+        faults += filter(None, [tokens.fault_of(pathlib.Path(told["tokens"]), default)])
     pairs = [("authority", "certificate", "key", told["name"])]
     pairs += [("etcd_authority", "etcd_certificate", "etcd_key", None)] if "etcd" in told else []
     soon = []

@@ -81,7 +81,9 @@ class Gateway(Server):
     def __init__(self, network: Network, folder: pathlib.Path, options: Optional[Options] = None):
         super().__init__()
         self.network, self.options = network, options or Options()
-        options = self.options
+        options, default = self.options, folder / "tokens.json"
+        tokens = pathlib.Path(options.tokens or default)
+        self.guard = Guard(options, Tokens(tokens, default))
         self.reader = Reader(network, options)
         self.shelf = Shelf(self.reader)
         self.lister = Lister(network, self.reader, self.shelf)
@@ -94,8 +96,6 @@ class Gateway(Server):
         self.watch = Watch(network, memory, network.authority, options.probe, options.challenge, options.stale, sorter)
         self.watch.announced, self.times = self.announcer.findings, Times()
         self.requests: "collections.Counter[str]" = collections.Counter()
-        tokens = pathlib.Path(options.tokens or folder / "tokens.json")
-        self.guard = Guard(options, Tokens(tokens))
         self.publisher.used = options.used or str(tokens.with_suffix(".used"))
         self.certificate = Certificate(options.tls_certificate, options.tls_key) if options.tls_certificate else None
         self.log, self.each = log_to(options.log), collections.Counter[str]()
@@ -126,6 +126,7 @@ class Gateway(Server):
         app.add_routes([web.get("/v1/rights", self.rights)])
         app.add_routes([web.get(path, self.page) for path in PAGES])
         context = self.certificate.context if self.certificate else None
+        self.reader.keeping = asyncio.create_task(self.reader.keep_room())
         return await self.serve(app, host, port, self.options.connections, context)
 
     async def close(self) -> None:

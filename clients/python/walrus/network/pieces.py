@@ -37,11 +37,16 @@ def write(file: IO[bytes], data: memoryview) -> None:
         data = data[file.write(data) :]  # noqa: E203
 
 
-def must_fit(place: Union[int, pathlib.Path], size: int, reserve: float, full: str) -> None:
-    """Raises `Problem` (507, with the text `full`) if `size` more bytes would leave less than `reserve` of the disk
-    free."""
+def lack_at(place: Union[int, str, pathlib.Path], size: int, reserve: float) -> float:
+    """Returns the bytes that a disk lacks for `size` more ones if `reserve`, a part of it, stays free; 0 or less if
+    none."""
     disk = os.statvfs(place)
-    if disk.f_bavail * disk.f_frsize - size < reserve * disk.f_blocks * disk.f_frsize:
+    return reserve * disk.f_blocks * disk.f_frsize + size - disk.f_bavail * disk.f_frsize
+
+
+def must_fit(place: Union[int, pathlib.Path], size: int, reserve: float, full: str) -> None:
+    """Raises `Problem` (507, with the text `full`) if a disk lacks room for `size` more bytes beside `reserve`."""
+    if lack_at(place, size, reserve) > 0:
         raise Problem(507, full)
 
 

@@ -5,6 +5,7 @@ import contextlib
 import itertools
 import secrets
 import sys
+import tempfile
 from typing import AsyncIterator, Callable, Iterable, Iterator, Optional, Union
 
 from aiohttp import web
@@ -17,14 +18,14 @@ from .client import Network
 from .exposure import Options
 from .heads import Lengths
 from .limits import Flow
-from .pieces import Memory, let_go, put_away, reading_needs
+from .pieces import Memory, lack_at, let_go, put_away, reading_needs
 from .problems import ALONE, BAD, NO_BLOB, Problem
 from .turns import ASKING, PARTS, WAITING, Together, Turns, owner_of
 
 SLICE, KIND = 262_144, "application/octet-stream"
 PART = 65_536  # bytes of a text that are sent at once
 BARE, READINGS = 73_400_320, 16  # bytes that an idle gateway takes; blobs that are read at once, if memory allows
-AHEAD = 5  # pieces of a file that are read at once for one client
+AHEAD, LOOK = 5, 1.0  # pieces of a file that are read at once for one client; seconds between two looks at the disk
 SILENCE, SUMS = 30.0, 65_536  # deadline in seconds to send a slice or receive anything; the most digests that are kept
 GRACE, LEAST = 60.0, 32_768  # seconds by which a client may lag, in all, behind LEAST bytes a second
 FOREVER = {"Cache-Control": "public, max-age=31536000, immutable", "Accept-Ranges": "bytes"}
@@ -39,6 +40,7 @@ class Reader:
         self.cache = Cache(self.fetch, options.room, READINGS)
         self.readings = Turns(READINGS, READINGS // 2)  # so that no client waits for everything that another one reads
         self.ahead = set["asyncio.Task[None]"]()  # reads of pieces that are needed next
+        self.keeping, self.is_short = None, False  # type: Optional["asyncio.Task[None]"], bool
         self.bytes, self.lengths = collections.Counter[str](), Lengths(network)
         self.rejected: Callable[[bytes], None] = lambda identifier: None  # called for each badly encoded blob
         self.sendings = Turns(options.connections, max(1, options.room // client.LARGEST_BLOB // PARTS))
@@ -76,8 +78,30 @@ class Reader:
             except client.BadlyEncoded:
                 self.rejected(name[:NAME])
                 raise
-            pool = self.network.walrus.pool  # not asyncio's own, in which name look-ups may take long
-            return await asyncio.get_running_loop().run_in_executor(pool, put_away, blob) if len(blob) > SLICE else blob
+            return await self.put_away(blob) if len(blob) > SLICE else blob
+
+    async def put_away(self, blob: bytes) -> bytes:
+        """Moves a blob to a file without a name, for which others that nobody uses give way if the disk is short."""
+        await self.make_room(len(blob))
+        pool = self.network.walrus.pool  # not asyncio's own, in which name look-ups may take long
+        try:
+            return await asyncio.get_running_loop().run_in_executor(pool, put_away, blob)
+        except OSError as fault:
+            raise Problem(503, f"the gateway cannot put what is read on its disk ({fault}): try again later") from None
+
+    async def make_room(self, size: int = 0) -> None:
+        """Drops cached blobs that nobody uses if `size` more bytes would leave less than twice `reserve` of the disk
+        free: so uploads find room there, and so do nodes and etcd, which may share it."""
+        words = lack_at, tempfile.gettempdir(), size, 2 * self.options.reserve
+        lack = await asyncio.get_running_loop().run_in_executor(self.network.walrus.pool, *words)
+        self.is_short = not self.cache.give_way(lack)
+
+    async def keep_room(self) -> None:
+        """Makes room regularly, also while nothing is read."""
+        while True:
+            await asyncio.sleep(LOOK)
+            with contextlib.suppress(OSError):
+                await self.make_room()
 
     @contextlib.asynccontextmanager
     async def blob(self, identifier: bytes, size: Optional[int] = None) -> AsyncIterator[bytes]:
@@ -186,7 +210,7 @@ class Reader:
 
     def read_ahead(self, pieces: Iterable[tuple[bytes, int, int, int]]) -> None:
         """Begins to read pieces that are needed next, as far as the client's places allow while one stays free."""
-        left = self.readings.left(ASKING.get()) - 1
+        left = 0 if self.is_short else self.readings.left(ASKING.get()) - 1  # dropped before they are sent
         for name, size, _, _ in pieces:
             if left > 0 and self.stands(name) and name not in self.cache.entries:
                 left -= 1
@@ -195,7 +219,7 @@ class Reader:
                 task.add_done_callback(self.ahead.discard)
 
     async def close(self) -> None:
-        for task in self.ahead:
+        for task in [*self.ahead, *filter(None, [self.keeping])]:
             task.cancel()
         await self.cache.close()
 

@@ -4,6 +4,7 @@ import dataclasses
 import hashlib
 import hmac
 import json
+import os
 import pathlib
 import secrets
 import sys
@@ -62,12 +63,15 @@ def read_tokens(path: pathlib.Path) -> dict[str, Token]:
 
 class Tokens:
     """The tokens of a file, which is read again when it changes. If it is later lost or malformed, the earlier tokens
-    remain valid: a gateway with tokens must not become open to all."""
+    remain valid: a gateway with tokens must not become open to all. For the same reason a file other than `default`
+    must be there at the start: raises `ValueError`."""
 
-    def __init__(self, path: pathlib.Path):
+    def __init__(self, path: pathlib.Path, default: pathlib.Path):
         self.path, self.known, self.state = path, None, ()  # type: pathlib.Path, Optional[dict[str, Token]], object
         if path.exists():
             self.known, self.state = read_tokens(path), self.look()
+        elif fault := fault_of(path, default):
+            raise ValueError(fault)
 
     def look(self) -> object:
         """Returns a value that changes whenever the file does."""
@@ -95,6 +99,13 @@ class Tokens:
             if token.name != ANYONE and hmac.compare_digest(token.digest, digest):
                 found = token
         return found
+
+
+def fault_of(path: pathlib.Path, default: pathlib.Path) -> str:
+    """Returns what is wrong if a file of tokens is missing that is not the default one; empty if nothing is."""
+    if os.path.exists(path) or path.resolve() == default.resolve():
+        return ""
+    return f"tokens: {path} is not there: bring it back, or make a first token (walrus-net token NAME --tokens {path})"
 
 
 def change_token(path: pathlib.Path, name: str, told: Optional[dict[str, Any]]) -> str:

@@ -1,9 +1,8 @@
 """State of resumable uploads on the disk: each has a folder of its own, so that it can continue after a break.
 
 A folder has `about` (until when the file is kept, the epoch in which the upload began, and the length if known),
-`names` (33 bytes for each certified piece: its identifier, and 1 if it was stored before, else 0), the later pieces in
-files by number, of which the last one grows, and `told` (the answer) once it is finished. Its name begins with a mark
-of the owner."""
+`names` (33 bytes for each certified piece: its identifier, and 1 if it was stored before), the later pieces in files by
+number, of which the last one grows, and `told` (the answer) once finished. Its name begins with a mark of the owner."""
 import collections
 import contextlib
 import fcntl
@@ -28,6 +27,7 @@ LULL = 600  # seconds without a byte after which an upload may have to give its 
 UNHEARD = 120  # the same for an upload that never had a byte, if its own owner needs the place
 IDLE, KNOWN = 86_400, 3_600  # seconds without a byte until an upload is dropped; for which a finished one is kept
 LATER = 3_600  # seconds for which an upload is kept that seems to be over when a gateway starts
+FRESH = 1.0  # seconds for which a list of the uploads is used again: with many of them, making it takes milliseconds
 RECORD = NAME + 1
 BEGUN = time.time() - time.monotonic()  # by how much the time of day was ahead of the monotonic clock at the start
 STRANGER, HOLDER = "a", "b"  # first letters of the names of uploads that belong to an address, and to a token
@@ -172,7 +172,13 @@ class Unfinished:
             with contextlib.suppress(FileNotFoundError):
                 if now() > touched(str(path)) + IDLE:
                     os.utime(path / "about", (now() - IDLE + LATER, now() - IDLE + LATER))
-        self.sweep()
+        self.at, self.found = time.monotonic(), self.sweep()
+
+    def known(self) -> dict[str, float]:
+        """Returns when data last arrived for each unfinished upload; what other gateways do, up to `FRESH` s late."""
+        if time.monotonic() - self.at > FRESH:
+            self.at, self.found = time.monotonic(), self.sweep()
+        return self.found
 
     def sweep(self) -> dict[str, float]:
         """Drops uploads that have been idle for too long; returns when data last arrived for each unfinished one."""
@@ -193,14 +199,12 @@ class Unfinished:
 
     def create(self, owner: str, about: dict[str, Any]) -> Upload:
         """Begins an upload, whose name begins with a mark of its owner; raises `Problem` if there are too many."""
-        mine, known = mark_of(owner), self.sweep()
+        mine, known = mark_of(owner), self.known()
         own = {name: last for name, last in known.items() if name.startswith(mine)}
-        if len(own) >= OF_ONE:
-            if not self.drop_idle(own):
-                text = f"{OF_ONE} uploads of yours are not finished: continue one of them, or end one with DELETE"
-                text += f", or try again once one of them has been idle for {LULL // 60} minutes"
-                raise Problem(429, text, {"Retry-After": "60"})
-            known = self.sweep()
+        if len(own) >= OF_ONE and not self.drop_idle(own):
+            text = f"{OF_ONE} uploads of yours are not finished: continue one of them, or end one with DELETE"
+            text += f", or try again once one of them has been idle for {LULL // 60} minutes"
+            raise Problem(429, text, {"Retry-After": "60"})
         strangers = {name: last for name, last in known.items() if name.startswith(STRANGER)}
         is_half = mine.startswith(STRANGER) and len(strangers) >= ALL // 2
         others = strangers if is_half else known if len(known) >= ALL else {}
@@ -217,15 +221,15 @@ class Unfinished:
             raise
         upload = self.find(made.name)
         upload.touch()
+        self.found[made.name] = now()
         return upload
 
     def make_place(self, mine: str, known: dict[str, float]) -> bool:
-        """Drops the most idle upload of the owner with most of them, if it has been idle for `LULL` seconds and the new
-        one's owner (`mine`) will have fewer. Returns whether it did."""
+        """Drops the most idle upload of the owner with most, if it was idle for `LULL` s and `mine` will have fewer."""
         counts = collections.Counter(name[: len(mine)] for name in known)
         owner, most = counts.most_common(1)[0]
         name = min((it for it in known if it.startswith(owner)), key=lambda it: known[it])
-        return most > counts[mine] + 1 and now() >= known[name] + LULL and self.end(name)
+        return most > counts[mine] + 1 and now() >= known[name] + LULL and self.end(name, LULL)
 
     def drop_idle(self, own: dict[str, float]) -> bool:
         """Drops the upload of an owner that has been idle for longest, if that is a while; first one without a byte, as
@@ -236,17 +240,23 @@ class Unfinished:
                 try:
                     may_go = now() >= own[name] + lull and (lull == LULL or self.find(name).offset == 0)
                 except Problem:  # it was dropped just now
-                    return True
-                if may_go and self.end(name):
+                    return self.forget(name)
+                if may_go and self.end(name, lull):
                     return True
         return False
 
-    def end(self, name: str) -> bool:
-        """Drops an upload unless a request works on it; returns whether it is gone."""
+    def end(self, name: str, lull: float) -> bool:
+        """Drops an upload unless a request works on it, or data came within `lull` s; returns whether it is gone."""
         with contextlib.suppress(OSError), open(self.folder / name / "about", "rb") as lock:
             fcntl.flock(lock, fcntl.LOCK_EX | fcntl.LOCK_NB)
-            shutil.rmtree(self.folder / name, ignore_errors=True)
-        return not (self.folder / name).exists()
+            if now() >= touched(f"{self.folder}/{name}") + lull:
+                shutil.rmtree(self.folder / name, ignore_errors=True)
+        return not (self.folder / name).exists() and self.forget(name)
+
+    def forget(self, name: str) -> bool:
+        """Has an upload count no more, as it is gone or finished; returns True."""
+        self.found.pop(name, None)
+        return True
 
     def lock(self, owner: str, name: str) -> Optional[IO[bytes]]:
         """Locks an upload: returns the file that holds the lock until it is closed, or None if another request works on
@@ -275,6 +285,7 @@ class Unfinished:
 
     def drop(self, upload: Upload) -> None:
         shutil.rmtree(upload.folder, ignore_errors=True)
+        self.forget(upload.folder.name)
 
 
 def is_of(owner: str, name: str) -> bool:

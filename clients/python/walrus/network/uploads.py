@@ -219,6 +219,7 @@ class Uploads:
         told |= await self.publisher.writer.kept([*names, identifier])
         told |= {"alreadyCertified": was_there}
         upload.finish(as_known(told))
+        self.kept.forget(upload.folder.name)
         return told
 
     def state(self, upload: Upload) -> dict[str, str]:
