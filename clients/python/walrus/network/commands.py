@@ -166,9 +166,9 @@ async def run(words: argparse.Namespace) -> int:
         return await operators.RUNS[words.command](words)
     limit = aiohttp.ClientTimeout(total=None, sock_connect=10, sock_read=PATIENCE)
     token = os.environ.get("WALRUS_TOKEN", "")
-    headers = {"Accept-Encoding": "identity"} | ({"Authorization": f"Bearer {token}"} if token else {})
-    plain = {"headers": headers, "auto_decompress": False}  # a few compressed bytes of a liar may be many
-    async with aiohttp.ClientSession(words.gateway, timeout=limit, **plain) as session:
+    headers = {"Accept-Encoding": "identity"}  # a few compressed bytes of a liar may become many
+    headers |= {"Authorization": f"Bearer {token}"} if token else {}
+    async with aiohttp.ClientSession(words.gateway, timeout=limit, headers=headers, auto_decompress=False) as session:
         return await remotely(words, session)
 
 
