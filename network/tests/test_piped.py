@@ -75,9 +75,9 @@ class Pauses(UploadCase):
             self.assertEqual(await self.put_piped(data), self.name_of(data))
         short, slow = os.urandom(700), os.urandom(2_400)
         self.assertEqual(await self.put_piped(PAUSE, short[:9], PAUSE, short[9:], PAUSE), self.name_of(short))
-        steps: list[Union[bytes, float]] = [
-            it for place in range(0, 2_400, 400) for it in (slow[place : place + 400], 0.2)
-        ]  # noqa: E203
+        steps = list[Union[bytes, float]]()
+        for place in range(0, 2_400, 400):
+            steps += [slow[place : place + 400], 0.2]  # noqa: E203
         self.assertEqual(await self.put_piped(*steps), self.name_of(slow))
         self.assertEqual(await self.put_piped(MARK, PAUSE, bytes(999)), self.name_of(MARK + bytes(999)))
 
