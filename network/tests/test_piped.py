@@ -1,5 +1,6 @@
 """What walrus-net stores from a pipe, which may pause, and what of it is in memory."""
 import asyncio
+import json
 import os
 import threading
 import time
@@ -9,6 +10,8 @@ from unittest import mock
 
 import aiohttp
 from aiohttp import web
+from harness import HERE
+from http_case import GatewayCase
 from transfer_case import DRAWN, TransferCase
 from upload_case import UploadCase
 from walrus.network import piped, reading, resuming
@@ -132,6 +135,28 @@ class Memory(TransferCase):
             self.assertTrue(self.sent + self.bodies.pop() == data)
         self.assertEqual(self.paths, ["/v1/blobs", "/v1/uploads/1"])
         self.assertLess(peaks[1] - peaks[0], 3 * PIECE)
+
+
+class Story(GatewayCase):
+    """The command over a network, whose gateway waits for two seconds."""
+
+    async def test_a_pipe_that_pauses_is_stored(self) -> None:
+        await self.start()
+        self.enterContext(mock.patch.object(reading, "SILENCE", 2.0))
+        data, pipes = DRAWN.randbytes(PIECE + 3_000_000), {it: asyncio.subprocess.PIPE for it in ("stdin", "stdout")}
+        line = [str(HERE.parent / "walrus-net"), "store", "-", "--epochs", "5", "--json"]
+        environment = {**os.environ, "WALRUS_GATEWAY": f"http://127.0.0.1:{self.port}"}
+        process = await asyncio.create_subprocess_exec(*line, env=environment, **pipes)
+        assert process.stdin and process.stdout
+        for place, end in ((0, 9), (9, PIECE + 1_500_000), (PIECE + 1_500_000, len(data))):
+            await asyncio.sleep(5)
+            process.stdin.write(data[place:end])
+            await process.stdin.drain()
+        out, _ = await process.communicate(b"")  # and so ends the input
+        self.assertEqual(process.returncode, 0)
+        told = json.loads(out)
+        self.assertEqual((told["size"], told["pieces"]), (len(data), 2))
+        self.assertTrue((await self.get(told["blobId"]))[2] == data)
 
 
 if __name__ == "__main__":
