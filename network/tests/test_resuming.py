@@ -81,6 +81,35 @@ class Away(unittest.IsolatedAsyncioTestCase):
         text = f"the ledger is away: it broke off {TRIES} times; the same command goes on from there"
         self.assertEqual(caught.exception.args, (text, 4))
 
+    async def test_a_gateway_that_goes_back_and_forth_is_given_up(self) -> None:
+        """Else a lying one has the whole file sent again and again, without an end."""
+        states = [{"offset": number % 2, "complete": False, "endEpoch": 5} for number in range(99)]
+        with mock.patch.object(resuming.Sending, "go_on", side_effect=resuming.Broken("later")) as sent:
+            with self.assertRaisesRegex(Failure, f"later: it broke off {TRIES} times at byte 1; "):
+                await self.send(states[0], *states)
+        self.assertEqual(sent.call_count, TRIES + 1)  # the second one had come further
+
+    async def test_a_request_that_breaks_off_takes_nothing_from_the_identifier(self) -> None:
+        """The request's task is cancelled, perhaps while the program computes the identifier of a piece."""
+        added, goes_on = list[bytes](), asyncio.Event()
+
+        async def add(part: bytes) -> None:
+            await goes_on.wait()
+            added.append(part)
+
+        with tempfile.TemporaryFile() as file:
+            file.write(b"first, second")
+            file.flush()
+            sending = resuming.Sending(mock.Mock(), file, mock.Mock(add=add), mock.Mock(size=13))
+            with mock.patch.object(resuming, "PART", 7):
+                broken = asyncio.create_task(sending.name(13))
+                await asyncio.sleep(0.01)
+                broken.cancel()
+                await asyncio.gather(broken, return_exceptions=True)
+                goes_on.set()
+                await sending.name(13)
+        self.assertEqual(added, [b"first, ", b"second"])
+
 
 if __name__ == "__main__":
     unittest.main()

@@ -1,10 +1,15 @@
-"""A fetch that was broken off goes on with the same command, and what came before is checked."""
+"""A fetch that was broken off goes on with the same command, and what came before is checked; answers without end."""
 import asyncio
+import contextlib
+import gzip
 import pathlib
 import signal
 import unittest
 
+from aiohttp import web
 from transfer_case import DRAWN, LIE, MARK, PIECE, TransferCase
+
+LENGTH = 268_435_456
 
 
 class Broken(TransferCase):
@@ -89,6 +94,49 @@ class Broken(TransferCase):
         self.whole = True
         await self.run_net("fetch", name, "--output", self.out)
         self.assertEqual((self.out.read_bytes() == blob, self.left(), self.starts), (True, ["out"], [0]))
+
+
+class Long(TransferCase):
+    """A gateway that wants the memory of its clients: its answers have 256 MiB."""
+
+    async def asyncSetUp(self) -> None:
+        self.long = ""
+        await super().asyncSetUp()
+
+    async def answer(self, request: web.Request, status: int) -> web.StreamResponse:
+        words = {"Content-Type": "application/json"}
+        if self.long == "zipped":
+            body = gzip.compress(bytes([32]) * LENGTH, 1)
+            return web.Response(body=body, status=status, headers={**words, "Content-Encoding": "gzip"})
+        response = web.StreamResponse(status=status, headers=words)
+        await response.prepare(request)
+        with contextlib.suppress(ConnectionError):
+            for _ in range(LENGTH // PIECE):
+                await response.write(bytes([32]) * PIECE)
+        return response
+
+    async def status(self, request: web.Request) -> web.StreamResponse:  # type: ignore[override]
+        return await (self.answer(request, 200) if self.long else super().status(request))
+
+    async def give(self, request: web.Request) -> web.StreamResponse:
+        return await self.answer(request, 404)
+
+    async def look(self, request: web.Request) -> web.StreamResponse:  # type: ignore[override]
+        return await self.answer(request, 200)
+
+    async def test_an_answer_of_any_length_takes_little_memory(self) -> None:
+        self.out.write_bytes(bytes(PIECE + 1))
+        self.resumes, usual = True, await self.peak_of("status")
+        for way, status, *words in (
+            ("", 4, "fetch", "0" * 64),
+            ("", 1, "store", self.out, "--epochs", "1"),
+            ("endless", 1, "status"),
+            ("endless", 1, "fetch", "0" * 64),
+            ("zipped", 1, "status"),
+        ):
+            with self.subTest(way=way, words=words):
+                self.long = way
+                self.assertLess(await self.peak_of(*words, status=status) - usual, 3 * PIECE)
 
 
 if __name__ == "__main__":

@@ -123,13 +123,13 @@ class TransferCase(unittest.IsolatedAsyncioTestCase):
         self.assertEqual(error.count(b"\n"), bool(status), error)
         return out, error.decode()
 
-    async def peak_of(self, *words: Union[str, pathlib.Path]) -> int:
+    async def peak_of(self, *words: Union[str, pathlib.Path], data: bytes = b"", status: int = 0) -> int:
         """Returns the peak resident memory of walrus-net, in bytes, while it does this."""
         (self.folder / "sitecustomize.py").write_text(TOLD)
         told = self.folder / "peak"
         environment = {"PYTHONPATH": str(self.folder), "PEAK": str(told), "XDG_STATE_HOME": str(self.folder)}
         with mock.patch.dict(os.environ, environment):
-            await self.run_net(*words)
+            await self.run_net(*words, data=data, status=status)
         return int(told.read_text()) * 1_024
 
     def left(self) -> list[str]:

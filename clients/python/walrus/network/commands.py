@@ -14,6 +14,7 @@ from .dates import epochs_for
 from .fetching import fetch_any
 from .follower import Refused, Unreachable
 from .manifest import clean
+from .piped import store_piped
 from .resuming import store
 from .transfers import PATIENCE, Failure, ask, listed, store_bundle
 from .trees import store_folder
@@ -101,7 +102,7 @@ async def remotely(words: argparse.Namespace, session: aiohttp.ClientSession) ->
             members = [clean(f"{it['id']} {it['name']}") for it in told["members"]]
             text = "\n".join([tell_blob(told), *members])
         elif words.command == "store":
-            way = store_folder if os.path.isdir(path) else store
+            way = store_folder if os.path.isdir(path) else store if os.path.isfile(path) else store_piped
             told = {"file": path, **await way(session, path, words.epochs)}
             text = f"{tell_blob(told)} {path}"
         elif words.command == "status":
@@ -165,8 +166,9 @@ async def run(words: argparse.Namespace) -> int:
         return await operators.RUNS[words.command](words)
     limit = aiohttp.ClientTimeout(total=None, sock_connect=10, sock_read=PATIENCE)
     token = os.environ.get("WALRUS_TOKEN", "")
-    headers = {"Authorization": f"Bearer {token}"} if token else {}
-    async with aiohttp.ClientSession(words.gateway, timeout=limit, headers=headers) as session:
+    headers = {"Accept-Encoding": "identity"}  # a few compressed bytes of a liar may become many
+    headers |= {"Authorization": f"Bearer {token}"} if token else {}
+    async with aiohttp.ClientSession(words.gateway, timeout=limit, headers=headers, auto_decompress=False) as session:
         return await remotely(words, session)
 
 

@@ -13,7 +13,7 @@ import aiohttp
 from . import transfers
 from .checked import Naming, written_whole
 from .chunks import PIECE
-from .transfers import PART, TRIES, Bar, Failure, ask, check, must_name, naming_of, sending
+from .transfers import PART, TRIES, Bar, Failure, ask, check, json_of, must_name, naming_of, reason_of, sending
 from .unfinished import IDLE
 
 KIND = "application/partial-upload"
@@ -58,9 +58,9 @@ def name_of(key: list[Any]) -> str:
 
 
 async def store(session: aiohttp.ClientSession, path: str, epochs: int) -> Any:
-    """Stores a file, or standard input (`-`); a file of several pieces as a resumable upload. Returns the gateway's
-    answer, and raises `Failure` if it names another identifier than the one computed here."""
-    if path == "-" or not os.path.isfile(path) or os.path.getsize(path) <= PIECE:
+    """Stores a file; one of several pieces as a resumable upload. Returns the gateway's answer, and raises `Failure` if
+    it names another identifier than the one computed here."""
+    if os.path.getsize(path) <= PIECE:
         return await transfers.store(session, path, epochs)
     naming = await naming_of(session)
     async with session.get("/livez") as said:
@@ -78,45 +78,53 @@ async def store(session: aiohttp.ClientSession, path: str, epochs: int) -> Any:
 
 
 class Sending:
-    """A file that is being sent."""
+    """A file that is being sent. `start` and `end` are the span of it that is in `file`: all of it."""
+
+    advice = "the same command goes on from there"  # what to do once all tries have failed
 
     def __init__(self, session: aiohttp.ClientSession, file: IO[bytes], naming: Naming, bar: Bar):
         self.session, self.file, self.naming, self.bar = session, file, naming, bar
+        self.start, self.end, self.place = 0, bar.size, ""
         self.named = 0  # bytes that went into the identifier so far
+        self.adding: Optional[asyncio.Task[None]] = None  # the last of them, which may still be on their way there
 
-    async def send(self, known: Known, epochs: int) -> Any:
+    async def send(self, known: Optional[Known], epochs: int) -> Any:
         """Sends what the gateway lacks of the file, with retries, until it is stored; returns the answer. None if the
-        gateway has no resumable uploads. Raises `Failure` after `TRIES` breaks without progress."""
-        place, tries, last = "", 0, -1
+        gateway has no resumable uploads. Raises `Failure` after `TRIES` breaks without progress: an offset counts as
+        progress only if it is beyond all earlier ones, as a gateway that lies may go back and forth."""
+        tries, last, furthest = 0, -1, -1
         while True:
             try:
-                place = place or await self.place_of(known, epochs)
-                if not place:
+                self.place = self.place or await self.place_of(known, epochs)
+                if not self.place:
                     return None
-                state = await self.look(place)
+                state = await self.look(self.place)
                 if state is None:
-                    known.keep("")
+                    if known:
+                        known.keep("")
                     raise Failure("the gateway has dropped the upload: store the file again", 4)
-                tries, last = (tries if state["offset"] == last else 0), state["offset"]
-                told = state["file"] if state["complete"] else await self.go_on(place, last)
-                known.keep("")
+                last = state["offset"]
+                tries, furthest = (0, last) if last > furthest else (tries, furthest)
+                told = state["file"] if state["complete"] else await self.go_on(last)
+                if known:
+                    known.keep("")
                 return told
             except (Broken, *BROKEN) as fault:
                 tries += 1
                 if tries == TRIES:
                     said, where = str(fault) or type(fault).__name__, f" at byte {last}" if last >= 0 else ""
-                    text = f"{said}: it broke off {TRIES} times{where}; the same command goes on from there"
+                    text = f"{said}: it broke off {TRIES} times{where}; {self.advice}"
                     raise Failure(text, 4) from fault
                 await asyncio.sleep(2**tries / 2)
 
-    async def place_of(self, known: Known, epochs: int) -> str:
+    async def place_of(self, known: Optional[Known], epochs: int) -> str:
         """Returns the URL of an earlier upload of this file that is kept for long enough, or else of a new one. It is
         empty if the gateway has no resumable uploads."""
-        if place := known.find():
+        if known and (place := known.find()):
             state, epoch = await self.look(place), (await ask(self.session, "GET", "/v1/status"))["epoch"]
             if state and state["endEpoch"] >= epoch + epochs:
                 return place
-        headers = {"Upload-Complete": "?0", "Upload-Length": str(self.bar.size)}
+        headers = {"Upload-Complete": "?0"} | ({"Upload-Length": str(self.end)} if known else {})
         words: dict[str, Any] = {"params": {"epochs": epochs}, "headers": headers}
         async with self.session.post("/v1/uploads", **words) as said:
             if said.status in (404, 405):
@@ -125,7 +133,8 @@ class Sending:
             place = said.headers.get("Location", "")
         if not place.startswith("/v1/uploads/"):
             raise Failure("the gateway does not say where the upload continues: is this a gateway?", 1)
-        known.keep(place)
+        if known:
+            known.keep(place)
         return place
 
     async def look(self, place: str) -> Optional[dict[str, Any]]:
@@ -134,47 +143,50 @@ class Sending:
             if said.status == 404:
                 return None
             if said.status in AGAIN:
-                raise Broken(await text_of(said))
+                raise Broken(await reason_of(said))
             await check(said)
-            told = await said.json()
+            told = await json_of(said)
         if not isinstance(told, dict) or not isinstance(told.get("offset"), int) or "complete" not in told:
             raise Failure("the gateway does not say how much it has received: is this a gateway?", 1)
-        if not 0 <= told["offset"] <= self.bar.size:
+        if not 0 <= told["offset"] <= self.end:
             raise Failure("the gateway says that it received more than the file has: this gateway lies", 1)
         return told
 
-    async def go_on(self, place: str, offset: int) -> Any:
+    async def go_on(self, offset: int) -> Any:
         """Sends the file from `offset` on, and returns the gateway's answer."""
         await self.name(offset)
+        headers = {"Upload-Complete": "?1", "Content-Length": str(self.end - offset)}
+        async with self.patch(offset, headers) as said:
+            return await json_of(said)
+
+    @contextlib.asynccontextmanager
+    async def patch(self, offset: int, headers: dict[str, str]) -> AsyncIterator[aiohttp.ClientResponse]:
+        """Yields the response to a request that continues the upload; raises `Broken` if another one may succeed."""
         self.bar.done = offset
-        headers = {"Content-Type": KIND, "Upload-Offset": str(offset), "Upload-Complete": "?1"}
-        headers["Content-Length"] = str(self.bar.size - offset)
-        async with sending(self.session, "PATCH", place, self.parts(offset), headers=headers) as said:
+        headers = {"Content-Type": KIND, "Upload-Offset": str(offset), **headers}
+        async with sending(self.session, "PATCH", self.place, self.parts(offset), headers=headers) as said:
             if said.status in AGAIN:
-                raise Broken(await text_of(said))
-            await check(said)
-            return await said.json()
+                raise Broken(await reason_of(said))
+            if said.status != 204:
+                await check(said)
+            yield said
 
     async def name(self, end: int) -> None:
-        """Continues the computation of the identifier up to byte `end` of the file."""
-        while self.named < end:
-            part = os.pread(self.file.fileno(), min(PART, end - self.named), self.named)
-            if not part:
-                raise Failure("the file has become shorter since the command began: store it again", 1)
-            self.named += len(part)
-            await self.naming.add(part)
+        """Continues the computation of the identifier up to byte `end` of the file. A part on its way there is not lost
+        if the caller is cancelled, as it is when a request breaks off."""
+        while self.adding or self.named < end:
+            if not self.adding:
+                part = os.pread(self.file.fileno(), min(PART, end - self.named), self.named - self.start)
+                if not part:
+                    raise Failure("the file has become shorter since the command began: store it again", 1)
+                self.named += len(part)
+                self.adding = asyncio.create_task(self.naming.add(part))
+            await asyncio.shield(self.adding)
+            self.adding = None
 
     async def parts(self, place: int) -> AsyncIterator[bytes]:
-        while part := os.pread(self.file.fileno(), min(PART, self.bar.size - place), place):
+        while part := os.pread(self.file.fileno(), min(PART, self.end - place), place - self.start):
             place += len(part)
             await self.name(place)
             yield part
             self.bar.add(len(part))
-
-
-async def text_of(said: aiohttp.ClientResponse) -> str:
-    """Returns the gateway's reason for an error."""
-    try:
-        return str((await said.json(content_type=None))["error"]["text"])
-    except (ValueError, KeyError, TypeError):
-        return f"status {said.status} comes from {said.url}"

@@ -2,6 +2,7 @@
 walrus or its library."""
 import asyncio
 import contextlib
+import json
 import os
 import pathlib
 import re
@@ -18,6 +19,7 @@ from .manifest import clean
 
 PART, TRIES = 1_048_576, 5
 PATIENCE = 180  # seconds for a gateway to read a part of what is sent, or to answer
+MOST_JSON = 4_194_304  # most bytes of a gateway's JSON: a page of a list has 170 KB, the largest status about 1 MB
 BY_STATUS = {404: 4, 410: 3, 503: 4}
 
 
@@ -45,14 +47,31 @@ class Bar(contextlib.AbstractContextManager["Bar"]):
             print("\r\033[K", end="", file=sys.stderr, flush=True)
 
 
+async def json_of(response: aiohttp.ClientResponse) -> Any:
+    """Returns the JSON of a gateway's answer; raises `Failure` if it is none, or too long: a gateway may lie."""
+    text = bytearray()
+    async for part in response.content.iter_any():
+        text += part
+        if len(text) > MOST_JSON:
+            raise Failure(f"an answer from {response.url} has more than {MOST_JSON} bytes: is this a gateway?", 1)
+    try:
+        return json.loads(text)
+    except (ValueError, RecursionError):
+        raise Failure(f"an answer from {response.url} is no JSON: is this a gateway?", 1) from None
+
+
+async def reason_of(response: aiohttp.ClientResponse) -> str:
+    """Returns in words why a gateway refuses."""
+    try:
+        return clean(str((await json_of(response))["error"]["text"]))
+    except (Failure, KeyError, TypeError):
+        return f"status {response.status} comes from {response.url}: is this a gateway?"
+
+
 async def check(response: aiohttp.ClientResponse) -> None:
     """Raises `Failure` with what a gateway says if it refuses."""
     if response.status not in (200, 201, 206):
-        try:
-            text = clean(str((await response.json(content_type=None))["error"]["text"]))
-        except (ValueError, KeyError, TypeError):
-            text = f"status {response.status} comes from {response.url}: is this a gateway?"
-        raise Failure(text, BY_STATUS.get(response.status, 1))
+        raise Failure(await reason_of(response), BY_STATUS.get(response.status, 1))
 
 
 async def listed(session: aiohttp.ClientSession, within: int) -> AsyncIterator[dict[str, Any]]:
@@ -90,14 +109,14 @@ async def put(session: aiohttp.ClientSession, parts: AsyncIterator[bytes], epoch
     """Stores a file that is sent in parts, and returns the gateway's answer."""
     async with sending(session, "PUT", "/v1/blobs", parts, params={"epochs": epochs}) as response:
         await check(response)
-        return await response.json()
+        return await json_of(response)
 
 
 async def ask(session: aiohttp.ClientSession, method: str, path: str, **words: Any) -> Any:
     """Returns the JSON of a gateway's answer; raises `Failure` if it refuses."""
     async with session.request(method, path, **words) as response:
         await check(response)
-        return await response.json()
+        return await json_of(response)
 
 
 def find_walrus() -> client.Walrus:
@@ -128,9 +147,9 @@ def must_name(told: Any, names: list[bytes], what: str) -> None:
 
 
 async def store(session: aiohttp.ClientSession, path: str, epochs: int) -> Any:
-    """Stores a file, or standard input if the path is `-`."""
+    """Stores a file in one request. Returns the gateway's answer."""
     name, naming = os.path.basename(path), await naming_of(session)
-    with open(0 if path == "-" else path, "rb") as file, Bar(name, os.fstat(file.fileno()).st_size) as bar:
+    with open(path, "rb") as file, Bar(name, os.fstat(file.fileno()).st_size) as bar:
 
         async def parts() -> AsyncIterator[bytes]:
             while part := file.read(PART):

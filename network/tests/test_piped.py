@@ -1,0 +1,163 @@
+"""What walrus-net stores from a pipe, which may pause, and what of it is in memory."""
+import asyncio
+import json
+import os
+import threading
+import time
+import unittest
+from typing import Any, Union
+from unittest import mock
+
+import aiohttp
+from aiohttp import web
+from harness import HERE
+from http_case import GatewayCase
+from transfer_case import DRAWN, TransferCase
+from upload_case import UploadCase
+from walrus.network import piped, reading, resuming
+from walrus.network.chunks import MARK, PIECE
+from walrus.network.transfers import Failure
+
+PAUSE = 0.6  # seconds, which is longer than the gateway of these tests takes of a client that sends nothing
+
+
+class Named:
+    """Records what an identifier is computed of."""
+
+    def __init__(self) -> None:
+        self.data = b""
+
+    async def add(self, part: bytes) -> None:
+        await asyncio.sleep(0.001)
+        self.data += part
+
+
+class Pauses(UploadCase):
+    """Pieces have 1,000 bytes, and a gateway waits for 0.3 s."""
+
+    async def start(self, host: str = "127.0.0.1", **options: Any) -> None:
+        for module, name, value in ((piped, "PIECE", 1_000), (piped, "WINDOW", 2_500), (reading, "SILENCE", 0.3)):
+            self.enterContext(mock.patch.object(module, name, value))
+        for module in (piped, resuming):
+            self.enterContext(mock.patch.object(module, "PART", 300))
+        self.enterContext(mock.patch.object(piped, "QUIET", 0.05))
+        await super().start(host, **options)
+
+    async def put_piped(self, *parts: Union[bytes, float]) -> Any:
+        """Stores these parts from a pipe, whose writer sleeps for so many seconds in place of numbers."""
+        inner, outer = os.pipe()
+
+        def write() -> None:
+            with open(outer, "wb", buffering=0) as out:
+                for part in parts:
+                    out.write(part) if isinstance(part, bytes) else time.sleep(part)
+
+        writer, named = threading.Thread(target=write), Named()
+        writer.start()
+        self.addCleanup(writer.join)
+        with open(inner, "rb", buffering=0) as source, open(self.folder / "kept", "w+b", buffering=0) as kept:
+            async with aiohttp.ClientSession(self.url) as session:
+                sending = piped.Piped(session, source, kept, named, mock.Mock(size=0))  # type: ignore[arg-type]
+                told = await sending.send_all(5)
+                await sending.name(sending.end)
+        self.assertEqual(named.data, b"".join(part for part in parts if isinstance(part, bytes)))
+        self.assertLessEqual((self.folder / "kept").stat().st_size, 2_500 + 300)
+        return told["blobId"]
+
+    async def test_it_may_pause_before_it_begins_in_its_midst_and_at_its_end(self) -> None:
+        await self.start()
+        data = os.urandom(9_321)
+        parts = PAUSE, data[:1_200], PAUSE, data[1_200:6_000], PAUSE, data[6_000:9_300], PAUSE, data[9_300:], PAUSE
+        self.assertEqual(await self.put_piped(*parts), self.name_of(data))
+        self.assertEqual(len(self.blobs), 10 + 1)
+
+    async def test_slowly_and_in_each_length_it_has_the_name_that_a_put_gives(self) -> None:
+        await self.start()
+        for size in (0, 1, 999, 1_000, 1_001, 2_500, 3_000, 4_300):
+            data = os.urandom(size)
+            self.assertEqual(await self.put_piped(data), self.name_of(data))
+        short, slow = os.urandom(700), os.urandom(2_400)
+        self.assertEqual(await self.put_piped(PAUSE, short[:9], PAUSE, short[9:], PAUSE), self.name_of(short))
+        steps = list[Union[bytes, float]]()
+        for place in range(0, 2_400, 400):
+            steps += [slow[place : place + 400], 0.2]  # noqa: E203
+        self.assertEqual(await self.put_piped(*steps), self.name_of(slow))
+        self.assertEqual(await self.put_piped(MARK, PAUSE, bytes(999)), self.name_of(MARK + bytes(999)))
+
+    async def test_it_goes_on_after_the_gateway_could_not_store_it(self) -> None:
+        await self.start()
+        data, self.away = os.urandom(7_000), "the nodes are away"
+        task = asyncio.create_task(self.put_piped(data[:1_700], PAUSE, data[1_700:5_000], 3.0, data[5_000:]))
+        await asyncio.sleep(2 * PAUSE)
+        self.away = ""
+        self.assertEqual(await task, self.name_of(data))
+
+    async def test_what_nobody_can_continue_leaves_its_place(self) -> None:
+        await self.start()
+        self.away = "the nodes are away"
+        with mock.patch.object(resuming, "TRIES", 2):
+            with self.assertRaisesRegex(Failure, "it broke off 2 times .*; store it again"):
+                await self.put_piped(os.urandom(5_000))
+        self.assertEqual([*(self.folder / "tokens.uploads").iterdir()], [])
+        self.away = ""
+        task = asyncio.create_task(self.put_piped(os.urandom(2_000), 1.0))
+        async with asyncio.timeout(60):
+            while not [*(self.folder / "tokens.uploads").iterdir()]:
+                await asyncio.sleep(0.01)
+        task.cancel()
+        await asyncio.gather(task, return_exceptions=True)
+        self.assertEqual([*(self.folder / "tokens.uploads").iterdir()], [])
+
+
+class Memory(TransferCase):
+    """The command, at a gateway that keeps what it is sent."""
+
+    async def asyncSetUp(self) -> None:
+        await super().asyncSetUp()
+        self.sent = bytearray()
+
+    async def look(self, _: web.Request) -> web.Response:
+        return web.json_response({"offset": len(self.sent), "complete": False, "endEpoch": 5, "file": None})
+
+    async def take(self, request: web.Request) -> web.Response:
+        if request.headers.get("Upload-Complete") != "?0":
+            return await super().take(request)
+        async for part in request.content.iter_any():
+            self.sent += part
+        return web.Response(status=204, headers={"Upload-Offset": str(len(self.sent))})
+
+    async def test_two_pieces_of_what_comes_are_in_memory_at_most(self) -> None:
+        pieces = [DRAWN.randbytes(PIECE) for _ in range(6)]
+        long, names = b"".join(pieces), b"".join([await self.id(piece) for piece in pieces])
+        name, peaks = (await self.id(MARK + len(long).to_bytes(8, "big") + names)).hex(), list[int]()
+        for data, self.named, self.resumes in ((b"short", (await self.id(b"short")).hex(), True), (long, name, True)):
+            peaks.append(await self.peak_of("store", "-", "--epochs", "1", data=data))
+            self.assertTrue(self.sent + self.bodies.pop() == data)
+        self.assertEqual(self.paths, ["/v1/blobs", "/v1/uploads/1"])
+        self.assertLess(peaks[1] - peaks[0], 3 * PIECE)
+
+
+class Story(GatewayCase):
+    """The command over a network, whose gateway waits for two seconds."""
+
+    async def test_a_pipe_that_pauses_is_stored(self) -> None:
+        await self.start()
+        self.enterContext(mock.patch.object(reading, "SILENCE", 2.0))
+        data, pipes = DRAWN.randbytes(PIECE + 3_000_000), {it: asyncio.subprocess.PIPE for it in ("stdin", "stdout")}
+        line = [str(HERE.parent / "walrus-net"), "store", "-", "--epochs", "5", "--json"]
+        environment = {**os.environ, "WALRUS_GATEWAY": f"http://127.0.0.1:{self.port}"}
+        process = await asyncio.create_subprocess_exec(*line, env=environment, **pipes)
+        assert process.stdin and process.stdout
+        for place, end in ((0, 9), (9, PIECE + 1_500_000), (PIECE + 1_500_000, len(data))):
+            await asyncio.sleep(5)
+            process.stdin.write(data[place:end])
+            await process.stdin.drain()
+        out, _ = await process.communicate(b"")  # and so ends the input
+        self.assertEqual(process.returncode, 0)
+        told = json.loads(out)
+        self.assertEqual((told["size"], told["pieces"]), (len(data), 2))
+        self.assertTrue((await self.get(told["blobId"]))[2] == data)
+
+
+if __name__ == "__main__":
+    unittest.main()
