@@ -37,8 +37,7 @@ class Parted(OSError):
 
 
 class Resolver(aiohttp.ThreadedResolver):
-    """Resolves any name, such as the one that a recorder's certificate must have, to that recorder's host. Of several
-    addresses another one comes first each time, as one that accepts no connection hides those after it."""
+    """Resolves any name to a recorder's host. Each time another of its addresses comes first, as one may not answer."""
 
     def __init__(self, host: str):
         super().__init__()

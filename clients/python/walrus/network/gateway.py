@@ -232,8 +232,8 @@ class Gateway(Server):
 
 
 def keep_buffers() -> None:
-    """Makes malloc reuse memory for transfer buffers of 256 KiB. As `walrus-net` sets malloc, it maps blocks of 64 KiB and
-    more anew: for an upload of 16 MiB that took 43 ms of processor time, and everything else 35 ms."""
+    """Makes malloc reuse memory for transfer buffers of 256 KiB. As `walrus-net` sets malloc, it maps blocks of 64 KiB
+    and more anew: for an upload of 16 MiB that took 43 ms of processor time, and everything else 35 ms."""
     with contextlib.suppress(AttributeError):  # other C libraries have no mallopt
         ctypes.CDLL(None).mallopt(MMAP_THRESHOLD, 524_288)
 

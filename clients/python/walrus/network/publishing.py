@@ -78,7 +78,7 @@ class Publisher:
                 async with pace.next():
                     part = await request.content.readany()
             except TimeoutError:
-                raise Problem(408, f"the upload was too slow, and ended after {size} bytes: send the file again") from None
+                raise Problem(408, f"the upload was too slow, and ended after {size} bytes: send it again") from None
             except (OSError, web.PayloadAccessError) as fault:
                 raise Problem(400, f"the upload broke off after {size} bytes: {fault}") from None
             if not part:
@@ -204,7 +204,7 @@ class Publisher:
 
 
 def failed_with(fault: Exception, stored: list[str], headers: Optional[dict[str, str]] = None) -> Problem:
-    """Returns the error for a file that was not stored. It lists certified pieces, which a retry does not store again."""
+    """Returns the error for a file that was not stored. It lists certified pieces, which a retry skips."""
     problem = problem_of(fault)
     problem.headers = {**problem.headers, **(headers or {})}
     if stored:

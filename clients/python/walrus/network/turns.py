@@ -12,7 +12,7 @@ from aiohttp import web
 from ..fairness import Fair, key_of
 
 WAITING = 60.0  # seconds to wait for a place before `TimeoutError`
-MOST = 1_000  # the most waiting requests of one client; more than all connections, as requests of closed ones still wait
+MOST = 1_000  # the most waiting requests of one client; more than all connections, as closed ones still wait
 PARTS = 4  # one client has at most one of PARTS equal parts of the places, unless `each` says otherwise
 ASKING = contextvars.ContextVar("asking", default="")  # the client (`owner_of`) for whom a task runs; empty for none
 
