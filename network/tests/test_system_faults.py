@@ -10,6 +10,7 @@ import socket
 import sqlite3
 import tempfile
 import threading
+import time
 import unittest
 from unittest import mock
 
@@ -66,7 +67,14 @@ class Shared(DiskCase):
         reader.execute("SELECT * FROM held").fetchall()
         self.store.close()
         said = self.enterContext(contextlib.redirect_stderr(io.StringIO()))
-        threading.Timer(0.5, reader.close).start()
+
+        def close() -> None:
+            end = time.monotonic() + 60  # a start on a busy machine may take long to come to its log
+            while not said.getvalue() and time.monotonic() < end:
+                time.sleep(0.01)
+            reader.close()
+
+        threading.Thread(target=close).start()
         with mock.patch.object(Store, "seconds", 0.05):
             self.store = Store(self.folder / "a.db")
         self.assertIn("waiting until it ends", said.getvalue())
