@@ -249,7 +249,7 @@ class Memory(Etcd):
     async def piece(self, place: int, number: int) -> bytes:
         await self.fails("before")
         if (place, number) not in self.pieces:
-            raise Gone("another checkpoint stands for this one")
+            raise Gone("a later checkpoint has replaced this one")
         return self.pieces[place, number]
 
     async def drop(self, mark: Mark) -> None:

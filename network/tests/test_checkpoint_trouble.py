@@ -73,7 +73,7 @@ class Defragmented(LedgerCase):
             await etcd.put_piece(5, 0, piece)
         await other.put_piece(5, 0, zlib.compress(text, 9))  # the same as another zlib packs it
         for another in (zlib.compress(b"another"), b"packed by nothing that is known"):
-            with self.assertRaisesRegex(Failed, "another checkpoint of this place"):
+            with self.assertRaisesRegex(Failed, "a different checkpoint of this place"):
                 await other.put_piece(5, 0, another)
         self.assertEqual(await one.piece(5, 0), piece)
 

@@ -93,8 +93,8 @@ class Found(FoundingCase):
     async def test_what_makes_no_network_is_refused_and_leaves_nothing(self) -> None:
         faults = {"--faults": 1, "--ledger": "alpha"}
         for nodes, text in (
-            (THREE, "alpha has 2 shards, and the network bears the loss of 1"),
-            (THREE[1:], "the nodes have 4 shards together, not 2"),
+            (THREE, "alpha has 2 shards, and the network tolerates the loss of 1"),
+            (THREE[1:], "the nodes must have 4 shards in total, not 2"),
             (["a=x:1", "a=y:1", "b=z:1", "c=w:1"], "a name of its own"),
             (["operator=x:1", "a=y:1", "b=z:1", "c=w:1"], "operator"),
             (["a=x:70000", "a=y:1", "b=z:1", "c=w:1"], "port 70000"),
@@ -206,7 +206,7 @@ class Changed(FoundingCase):
         await self.found()
         self.assertIn("; if its key may be known, expel it", await self.says("remove", self.folder, "gate"))
         said = await self.says("remove", self.folder, "operator")
-        self.assertRegex(said, "^operator is forgotten, which was at users: add --user operator makes another one; ")
+        self.assertRegex(said, "^operator is removed, which was at users: add --user operator makes another one; ")
         self.assertNotIn("expel", said)
         await self.says("add", self.folder, "--user", "operator")
         with self.assertRaisesRegex(Failure, "operator cannot be expelled: no epoch could begin any more"):
@@ -223,7 +223,7 @@ class Changed(FoundingCase):
         self.assertGreater(after.not_valid_after, before.not_valid_after + datetime.timedelta(days=3_000))
         self.assertEqual(certificates.read(alpha / "alpha.crt"), leaf)
         self.assertTrue(certificates.is_signed(leaf, after))
-        self.assertIn("no certificate ends so soon", await self.says("renew", self.folder))
+        self.assertIn("no certificate expires so soon", await self.says("renew", self.folder))
 
     async def test_a_renewal_that_was_interrupted_is_completed_by_the_next_one(self) -> None:
         """It ended between two copies of the authority, of which a full disk left one empty."""
@@ -238,7 +238,7 @@ class Changed(FoundingCase):
         self.assertEqual([path for path in (authority, late, empty) if f"{path} is new\n" in said], [late, empty])
         copies = {path.read_bytes() for path in self.folder.rglob("authority.crt")}
         self.assertEqual((copies, before in copies), ({authority.read_bytes()}, False))
-        self.assertIn("no certificate ends so soon", await self.says("renew", self.folder))
+        self.assertIn("no certificate expires so soon", await self.says("renew", self.folder))
 
     async def test_a_certificate_is_renewed_by_name_with_all_its_names(self) -> None:
         await self.found()

@@ -112,7 +112,7 @@ class People(UpCase):
         await self.words("store", "-", "--epochs", 2, data=b"three of four")
         os.kill(self.process_of(folder, "node-2"), signal.SIGKILL)
         self.assertEqual(await asyncio.wait_for(self.local.processes["up"].wait(), 60), 1, self.log("up"))
-        self.assertIn("it ends, as the nodes of 2 shards are gone, of 1 that may be", self.log("up"))
+        self.assertIn("the network ends, as nodes with 2 shards are gone, and only 1 may be", self.log("up"))
 
     async def test_up_goes_on_in_the_background_with_seven_shards(self) -> None:
         folder, port = self.folder / "network", free_port()

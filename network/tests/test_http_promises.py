@@ -51,7 +51,7 @@ class Times(GuardCase):
                 status, _, found = await self.ask("PUT", f"/v1/blobs?for={told}", data=told.encode())
                 self.assertEqual((status, found["endEpoch"]), (201, epochs), told)
             count = len(self.stored)
-            for told, said in (("4y", "no length of time"), ("", "no length of time"), ("9999d", "are 715 epochs")):
+            for told, said in (("4y", "is not a length"), ("", "is not a length"), ("9999d", "are 715 epochs")):
                 status, _, found = await self.ask("PUT", f"/v1/blobs?for={told}", data=b"x")
                 self.assertEqual((status, len(self.stored)), (400, count))
                 self.assertIn(said, found["error"]["text"])

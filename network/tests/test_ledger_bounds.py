@@ -94,7 +94,7 @@ class Addresses(unittest.TestCase):
         asyncio.run(other.take([zlib.compress(it) for it in kept.written()]))
         for ledger in (kept.ledger, other.ledger):
             self.assertEqual(
-                ledger.fork().refused(Entry(99, texts[-1])), f"x has told {ADDRESSES} addresses in this epoch"
+                ledger.fork().refused(Entry(99, texts[-1])), f"x has posted {ADDRESSES} addresses in this epoch"
             )
             self.assertEqual(entered(ledger, texts[-1], f"y/{texts[-1][2:]}"), [None, "entered"])
             self.assertEqual(ledger.addresses["x"][0], f"host-{ADDRESSES - 1}")

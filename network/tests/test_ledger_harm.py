@@ -66,7 +66,7 @@ class Waiting(unittest.IsolatedAsyncioTestCase):
         texts = ["x", "x/" + "y" * 1_000_000, "x/ready/01", "x/register/\ud800/1", ""]
         async with asyncio.timeout(120):
             said = await self.made.post(texts)
-        self.assertEqual([str(it) for it in said], ["it has not the form of an entry"] * 5)
+        self.assertEqual([str(it) for it in said], ["it does not have the form of an entry"] * 5)
         self.assertTrue(all(isinstance(it, Refused) for it in said))
         self.assertEqual(self.etcd.all, [FOUNDED])
 

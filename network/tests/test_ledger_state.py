@@ -71,7 +71,7 @@ class States(RulesCase):
                 each.ledger.apply(Entry(place, entry_key("x", "register", name, 2)))
             each.save(chain.behind(kept))
         pieces = [zlib.compress(it) for it in other.written()]
-        with self.assertRaisesRegex(ValueError, "a piece of the checkpoint is torn"):
+        with self.assertRaisesRegex(ValueError, "a piece of the checkpoint is damaged"):
             checkpoint.state_of([pieces[0][:-9]])
         self.assertNotEqual(checkpoint.state_of(pieces), checkpoint.state_of(pieces * 2))
         asyncio.run(one.take(pieces))
@@ -153,11 +153,11 @@ class States(RulesCase):
             base.execute("BEGIN EXCLUSIVE")
             connect = sqlite3.connect
             with mock.patch.object(state.sqlite3, "connect", lambda *it, **to: connect(*it, **{**to, "timeout": 0})):
-                with self.assertRaisesRegex(OSError, "kept is not opened: database is locked"):
+                with self.assertRaisesRegex(OSError, "kept cannot be opened: database is locked"):
                     State.open(str(path))
             base.close()
             path.with_name("kept-wal").mkdir()  # so that it cannot be opened
-            with self.assertRaisesRegex(OSError, "kept is not opened: unable to open database file"):
+            with self.assertRaisesRegex(OSError, "kept cannot be opened: unable to open database file"):
                 State.open(str(path))
             path.with_name("kept-wal").rmdir()
             self.assertEqual(path.read_bytes(), whole)

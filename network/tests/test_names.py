@@ -31,8 +31,8 @@ class Names(FoundingCase):
         for words, why in (
             (["--user", "Recorder"], "Recorder cannot be a user's name"),
             (["--user", "OPERATOR"], "OPERATOR cannot be a user's name"),
-            (["RECORDER=delta:1"], "names nothing that can be: RECORDER"),
-            (["--gateway", "recordeR=delta"], "names nothing that can be: recordeR"),
+            (["RECORDER=delta:1"], "is not possible: name RECORDER"),
+            (["--gateway", "recordeR=delta"], "is not possible: name recordeR"),
             (["--user", "Alpha"], "Alpha is there already"),
             (["--user", "GATE"], "GATE is there already"),
             (["Printer=delta:1"], "Printer is there already"),

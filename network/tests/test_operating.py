@@ -109,7 +109,7 @@ class Handover(LedgerCase):
             terminal = mock.Mock(isatty=lambda: True)
             with mock.patch("sys.stdin", terminal), mock.patch("builtins.input", lambda text, it=answer: it):
                 said = await self.hand_over(*NODES[:3], "node-4", yes=False)
-            self.assertIn("epoch 1 is not reached" if begins else "nothing was begun", said)
+            self.assertIn("epoch 1 has not begun after" if begins else "nothing was begun", said)
             self.assertEqual(await self.epoch_begins(), begins)
 
     async def finish(self, epoch: int) -> None:
@@ -188,7 +188,7 @@ class Anew(LedgerCase):
         words = str(self.folder / "authority.crt"), str(known / "operator.crt"), str(known / "operator.key")
         thief = Recorders(self.local.told()["recorders"], *words)
         self.addAsyncCleanup(thief.aclose)
-        with self.assertRaisesRegex(Unreachable, "takes no such certificate"):
+        with self.assertRaisesRegex(Unreachable, "does not accept the certificate"):
             await thief.post(entry_key(OPERATOR, "share", "thief", 1), 5)
         await self.user(OPERATOR).post(entry_key(OPERATOR, "share", "printer", 2))
         async with self.following(self.user("publisher")) as view:

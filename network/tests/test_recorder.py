@@ -68,7 +68,7 @@ class Adversary(LedgerCase):
             self.assertEqual((status, [*map(sorted, said)]), (200, [["refused"]] * 3))
         with self.assertRaises(Refused) as caught:
             await mallory.post(entry_key("mallory", "begin", 1, 1, "a,b,c,d"))
-        self.assertEqual(str(caught.exception), "only operator says that")
+        self.assertEqual(str(caught.exception), "only operator may post that")
         await mallory.post(entry_key("mallory", ADDRESS, "127.0.0.1", 9))
         async with self.following(self.user("publisher")) as view:
             self.assertEqual((view.ledger.addresses, view.ledger.moving), ({"mallory": ("127.0.0.1", 9)}, False))
@@ -131,7 +131,7 @@ class Adversary(LedgerCase):
         said = await asyncio.gather(*flood, return_exceptions=True)
         self.assertEqual(sum(isinstance(it, int) for it in said), 3_000)
         refused = {str(it) for it in said if isinstance(it, Refused)}
-        self.assertEqual(refused, {"mallory has its share of 3000 registrations in this epoch"})
+        self.assertEqual(refused, {"mallory has used its share of 3000 registrations in this epoch"})
         await self.operator.post(entry_key(OPERATOR, "share", "mallory", 3_001))
         await mallory.post(registration("mallory", 9_001))
         async with self.following(self.user("publisher")) as view:
@@ -187,7 +187,7 @@ class Judged(RecorderCase):
         *past, first, second, third = await taken
         self.assertEqual({*map(str, past)}, {"that epoch is past"})
         self.assertEqual((first, second), (3, 4))
-        self.assertEqual(str(third), "x has its share of 2 registrations in this epoch")
+        self.assertEqual(str(third), "x has used its share of 2 registrations in this epoch")
 
 
 if __name__ == "__main__":

@@ -103,7 +103,7 @@ class Connections(LedgerCase):
             body = zlib.compress(b" " * 400_000 + b"[]", 9, 15 if packing == "deflate" else 31)
             headers = {"Content-Encoding": packing}
             said = await self.ask("publisher", "POST", "/v1/entries", data=body, headers=headers)
-            self.assertEqual((said[0], "no JSON" in said[1]["error"]), (400, True))
+            self.assertEqual((said[0], "not JSON" in said[1]["error"]), (400, True))
 
     async def test_who_follows_and_reads_nothing_is_let_go_and_holds_up_nobody(self) -> None:
         for service in self.services:

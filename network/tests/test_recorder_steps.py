@@ -60,7 +60,7 @@ class FullDisk(unittest.IsolatedAsyncioTestCase):
             settings = RecorderSettings(**{**words, "name": "recorder-0", "state": str(path)})
             self.assertEqual(await recording.serve(settings), 1)
             self.assertTrue(path.exists())
-        told = f"recorder-0 cannot start: {path} is not opened: unable to open database file\n"
+        told = f"recorder-0 cannot start: {path} cannot be opened: unable to open database file\n"
         self.assertIn(told, said.getvalue())
 
     async def test_a_checkpoint_that_cannot_be_written_is_written_later(self) -> None:

@@ -93,8 +93,8 @@ class Streams(LedgerCase):
             self.posts = [(status, {"error": "no"})]
             with self.assertRaisesRegex(Refused, "^no$"):
                 await self.recorders.post("publisher/ready/1")
-        self.posts = [(200, [{"refused": "only operator says that"}])]
-        with self.assertRaisesRegex(Refused, "^only operator says that$"):
+        self.posts = [(200, [{"refused": "only operator may post that"}])]
+        with self.assertRaisesRegex(Refused, "^only operator may post that$"):
             await self.recorders.post("publisher/begin/1/1/a,b,c,d")
 
 

@@ -121,7 +121,7 @@ class Agreed(unittest.IsolatedAsyncioTestCase):
             with etcd, mock.patch.object(Restoring, "listen", listen):
                 with contextlib.redirect_stderr(said), contextlib.redirect_stdout(io.StringIO()):
                     self.assertEqual(await restoring.serve(mock.Mock(), 0.1), status)
-            self.assertIn("publisher heard more than the" if status else "publisher told of more", said.getvalue())
+            self.assertIn("publisher heard more than the" if status else "publisher reported more", said.getvalue())
 
     async def test_no_ledger_is_founded_where_the_snapshot_was_not_restored(self) -> None:
         memory = Memory()
@@ -265,7 +265,7 @@ class Restored(LedgerCase):
             self.tasks[name].cancel()
         await self.fall_back()
         said = await self.restore(1)
-        self.assertIn("node-0 was not heard at the end\n", said)
+        self.assertIn("node-0 was silent at the end\n", said)
         self.assertRegex(said, f"0 entries are back; .*\n{', '.join(later)} heard more than the snapshot has, ")
 
 

@@ -1,4 +1,4 @@
-"""What a node tells the ledger of itself: where it is reached, also at an IPv6 address, and where that is refused."""
+"""The address that a node posts to the ledger, such as an IPv6 address, and what it does if that is refused."""
 import asyncio
 import contextlib
 import io
@@ -24,14 +24,14 @@ class Addresses(unittest.IsolatedAsyncioTestCase):
             self.assertEqual(Entry(1, entry_key("a", ADDRESS, *settings.reached(7))).values, wanted)
 
     async def test_an_address_that_is_refused_is_told_again_and_why_it_is_said_once(self) -> None:
-        post = mock.AsyncMock(side_effect=[Refused("a has its share"), Refused("a has its share"), 9])
+        post = mock.AsyncMock(side_effect=[Refused("a has used its share"), Refused("a has used its share"), 9])
         node, said = mock.Mock(recorders=mock.Mock(post=post)), io.StringIO()
         node.name = "a"
         with mock.patch.object(handover, "LATER", 0.0), contextlib.redirect_stderr(said):
             await handover.tell_address(node, "alpha", "31500")
         self.assertEqual([it.args for it in post.call_args_list], [("a/address/alpha/31500", None)] * 3)
         self.assertRegex(
-            said.getvalue(), r"\Aa: the ledger does not take the address alpha:31500, .* a has its share; .*\n\Z"
+            said.getvalue(), r"\Aa: the ledger does not take the address alpha:31500, .* a has used its share; .*\n\Z"
         )
 
 
@@ -43,7 +43,7 @@ class Shareless(NetworkCase):
             self.assertTrue(await network.until(lambda it: it.certificate(name) == (0, 4)), self.logs())
             await operator.recorders.post(entry_key(OPERATOR, "share", "node-0", 0))
             before = network.ledger.addresses["node-0"]
-            for node, host in (("node-0", "localhost"), ("node-1", "[::1]")):  # the second one may tell where it is
+            for node, host in (("node-0", "localhost"), ("node-1", "[::1]")):  # node-0 may not post it
                 path, port = self.folder / f"{node}.toml", network.ledger.addresses[node][1]
                 await self.local.end(node)
                 configuration.write(Settings, path, configuration.values_of(path) | {"announced": f"{host}:{port}"})
@@ -55,7 +55,7 @@ class Shareless(NetworkCase):
             self.assertEqual(network.ledger.addresses["node-0"], before)
             for node in ("node-1", "node-2"):
                 await self.local.end(node)
-            await self.reads_all(network)  # of node-0 and node-3
+            await self.reads_all(network)  # from node-0 and node-3
             for node in ("node-1", "node-2"):
                 await self.local.start_node(node)
         await self.check()

@@ -1,4 +1,4 @@
-"""The live blobs of a ledger, in SQLite: who registered them, and which shards have spoken of them."""
+"""The live blobs of a ledger, in SQLite: who registered them, and which shards acknowledged or attested them."""
 import collections
 import contextlib
 import dataclasses
@@ -10,8 +10,8 @@ from typing import Collection, Iterable, Iterator, Mapping, Optional
 from .checkpoint import Row
 from .entries import ACK, ATTEST
 
-CACHED = 8_192  # blobs kept as read
-# SQLite counts how many blobs each poster has until each epoch: at a turn of the epoch none of them is read.
+CACHED = 8_192  # blobs that are kept in memory
+# Triggers of SQLite count each poster's blobs by the epoch until which they are kept: an epoch change reads no blob.
 COUNT = """INSERT INTO counts VALUES (new.until, new.poster, 1, new.certified NOTNULL, new.invalid NOTNULL)
     ON CONFLICT DO UPDATE SET registered = registered + 1, certified = certified + excluded.certified,
     invalid = invalid + excluded.invalid"""
@@ -29,7 +29,7 @@ TABLES = (
     f"CREATE TRIGGER IF NOT EXISTS made AFTER INSERT ON blobs BEGIN {COUNT}; END",
     f"CREATE TRIGGER IF NOT EXISTS changed AFTER UPDATE ON blobs BEGIN {UNCOUNT}; {COUNT}; END",
 )
-DERIVED = "INDEX of_epoch", "INDEX of_number", "TRIGGER made", "TRIGGER changed"  # made anew they cost less for many
+DERIVED = "INDEX of_epoch", "INDEX of_number", "TRIGGER made", "TRIGGER changed"  # cheaper made anew for many rows
 ALL = "SELECT * FROM blobs WHERE until > ? ORDER BY identifier"
 PUT = """INSERT INTO blobs VALUES (?, ?, ?, ?, ?, ?, ?) ON CONFLICT DO UPDATE SET
     number = max(number, excluded.number), until = excluded.until, poster = excluded.poster, votes = excluded.votes,
@@ -41,21 +41,23 @@ Votes = Mapping[str, Mapping[int, frozenset[int]]]
 
 @dataclasses.dataclass(frozen=True)
 class Blob:
-    """A live blob: until when, who had it kept so long, and the shards that acknowledged it or attested, by epoch."""
+    """A live blob: the epoch until which it is kept, the poster that keeps it for so long, and by kind and epoch the
+    shards that acknowledged it or attested that it is badly encoded."""
 
     until: int
     poster: str
     votes: Votes = dataclasses.field(default_factory=lambda: {ACK: {}, ATTEST: {}})
 
     def quorum(self, kind: str, needed: int) -> Optional[tuple[int, int]]:
-        """The least epoch in which so many shards said so, and how many did."""
+        """Returns the first epoch in which `needed` shards or more voted so, and their number; or None."""
         for epoch, shards in sorted(self.votes[kind].items()):
             if len(shards) >= needed:
                 return epoch, len(shards)
         return None
 
     def voted(self, kind: str, epoch: int, shards: frozenset[int], needed: int) -> "Blob":
-        """This blob once these shards said so too, without what counts no more then; so many are a quorum."""
+        """Returns this blob with the votes of these shards added and those dropped that no longer count. `needed`
+        shards are a quorum."""
         said = self.votes[kind].get(epoch, frozenset()) | shards
         blob = Blob(self.until, self.poster, {**self.votes, kind: {**self.votes[kind], epoch: said}})
         first, _ = blob.quorum(kind, needed) or (None, 0)
@@ -63,19 +65,20 @@ class Blob:
 
 
 def counting(votes: Mapping[int, frozenset[int]], first: Optional[int]) -> dict[int, frozenset[int]]:
-    """Of the votes of a kind those that the rules may ask for still: the ones of the first epoch with a quorum, and of
-    the last two that have any, which may be the epochs of both committees. An earlier one gets no more votes, and so no
-    quorum. This depends on the votes alone: what is left out with each vote, or at last, is the same."""
+    """Returns those votes of a kind that the rules may still ask for: the ones of `first`, the first epoch with a
+    quorum, and of the last epoch with votes and the one before, which may be those of both committees. Earlier epochs
+    get no more votes, and so no quorum. The result depends on the votes alone: whether the others are dropped with each
+    vote or all at the end, it is the same."""
     return {epoch: said for epoch, said in votes.items() if epoch == first or epoch >= max(votes) - 1}
 
 
 def coded(votes: Mapping[int, frozenset[int]]) -> dict[int, int]:
-    """The shards that have spoken, as bits of a number for each epoch."""
+    """Encodes the shards that voted in each epoch as the bits of a number."""
     return {epoch: sum(1 << shard for shard in shards) for epoch, shards in sorted(votes.items())}
 
 
 def decoded(votes: dict[str, int]) -> dict[int, frozenset[int]]:
-    """The shards that such numbers tell."""
+    """Decodes such numbers."""
     return {int(it): frozenset(n for n in range(bits.bit_length()) if bits >> n & 1) for it, bits in votes.items()}
 
 
@@ -89,9 +92,9 @@ def text_of(votes: Votes) -> str:
 
 
 def without_past(row: Row) -> Row:
-    """A row of a checkpoint as it is written now: former versions wrote all votes, also those that count no more."""
+    """Returns a row of a checkpoint without votes that no longer count, which earlier versions wrote too."""
     identifier, number, until, poster, votes, certified, invalid = row
-    if votes.count(":") < 2:  # they are of one epoch, as nearly always
+    if votes.count(":") < 2:  # all are of one epoch, as nearly always
         return row
     said = blob_of(until, poster, votes).votes
     votes = text_of({ACK: counting(said[ACK], certified), ATTEST: counting(said[ATTEST], invalid)})
@@ -99,24 +102,24 @@ def without_past(row: Row) -> Row:
 
 
 def ending_of(name: str, *words: object) -> list[bytes]:
-    """What `Blobs.ending` tells, of a database that another thread writes."""
+    """Returns the same as `Blobs.ending`, by a connection of its own to a database that another thread writes."""
     with contextlib.closing(sqlite3.connect(name)) as base:
         return [it for it, in base.execute(ENDING, words)]
 
 
 class Blobs(Mapping[bytes, Blob]):
-    """Blobs in a database, those last that were registered last, and some in memory too. What is set goes to the
-    database when something else is asked of it. `needed` are the shards of a quorum, `number` is that of the last blob.
-    What is kept until `epoch` at most is over: it is here no more, and its rows go by and by, so that a turn of the
-    epoch costs the same however many blobs end with it."""
+    """Blobs in a database, in the order in which they were registered, some of them also in memory. Changes are written
+    to the database when another query needs them. `needed` is the number of shards in a quorum, and `number` that of
+    the last blob. A blob that is kept until `epoch` or less is *over*, or expired: this mapping no longer has it, and
+    its row is deleted later, so that an epoch change costs the same however many blobs end with it."""
 
     needed, epoch, number = 1, 0, 0
 
     def __init__(self, base: Optional[sqlite3.Connection] = None):
         self.base = base or sqlite3.connect(":memory:", isolation_level=None)
         self.make()
-        self.kept = dict[bytes, Optional[Blob]]()  # in memory; none if it is not there
-        self.numbers = dict[bytes, int]()  # of those that were set since, or 0 if they have one
+        self.kept = dict[bytes, Optional[Blob]]()  # in memory; None if the ledger has no such blob
+        self.numbers = dict[bytes, int]()  # of new blobs that the database lacks, and 0 of blobs that were changed
 
     def make(self) -> None:
         for words in TABLES:
@@ -146,7 +149,7 @@ class Blobs(Mapping[bytes, Blob]):
         self.numbers.setdefault(identifier, self.number if is_new else 0)
 
     def flush(self) -> sqlite3.Connection:
-        """The database once it has all that was set."""
+        """Writes all changes to the database, and returns it."""
         rows = [self.row(identifier, number) for identifier, number in self.numbers.items()]
         self.base.executemany(PUT, rows)
         self.numbers.clear()
@@ -158,7 +161,7 @@ class Blobs(Mapping[bytes, Blob]):
         return identifier, number, blob.until, blob.poster, text_of(blob.votes), first[0], first[1]
 
     def names(self, words: str, *values: object) -> list[bytes]:
-        """The identifiers that are selected so."""
+        """Returns the identifiers of the blobs for which an SQL condition holds."""
         return [it for it, in self.flush().execute(f"SELECT identifier FROM blobs WHERE {words}", values)]
 
     def ordered(self, by: str) -> Iterator[bytes]:
@@ -175,63 +178,63 @@ class Blobs(Mapping[bytes, Blob]):
         return self.counts()["registered"]
 
     def page(self, after: bytes, count: int = 1_000) -> list[tuple[bytes, Blob]]:
-        """Some blobs in the order of their identifiers, behind one of them."""
+        """Returns up to `count` blobs after an identifier, in the order of identifiers."""
         words = "SELECT identifier, until, poster, votes FROM blobs WHERE identifier > ? AND until > ?"
         rows = self.flush().execute(f"{words} ORDER BY identifier LIMIT ?", (after, self.epoch, count))
         return [(row[0], blob_of(*row[1:])) for row in rows]
 
     def expire(self, epoch: int) -> "collections.Counter[str]":
-        """From now on what is kept until this epoch at most is over; how many blobs each poster has then."""
+        """Ends all blobs that are kept until this epoch or less; returns each poster's number of live blobs."""
         self.flush().execute("DELETE FROM counts WHERE until <= ?", (epoch,))
         self.epoch = epoch
         return self.posters()
 
     def over(self, count: int) -> list[bytes]:
-        """Some of what is over and still has its row."""
+        """Returns up to `count` blobs that are over and still have a row."""
         return self.names("until <= ? LIMIT ?", self.epoch, count)
 
     def is_over(self, identifier: bytes) -> bool:
-        """Whether a blob is over and still has its row."""
+        """Whether a blob is over and still has a row."""
         words = "SELECT 1 FROM blobs WHERE identifier = ?"
         return identifier not in self and bool(self.base.execute(words, (identifier,)).fetchone())
 
     def drop(self, identifiers: Iterable[bytes]) -> None:
-        """Drops the rows of what is over."""
+        """Deletes the rows of those of these blobs that are over."""
         rows = ((identifier, self.epoch) for identifier in identifiers)
         self.base.executemany("DELETE FROM blobs WHERE identifier = ? AND until <= ?", rows)
 
     def posters(self) -> "collections.Counter[str]":
-        """How many blobs each poster has kept."""
+        """Returns the number of live blobs of each poster."""
         words = "SELECT poster, sum(registered) AS live FROM counts WHERE until > ? GROUP BY poster HAVING live"
         return collections.Counter(dict(self.flush().execute(words, (self.epoch,))))
 
     def counts(self) -> dict[str, int]:
-        """How many blobs there are, and how many of these are certified or declared invalid."""
+        """Returns the number of live blobs, and how many of them are certified or declared invalid."""
         words = "SELECT total(registered), total(certified), total(invalid) FROM counts WHERE until > ?"
         found = self.flush().execute(words, (self.epoch,)).fetchone()
         return dict(zip(("registered", "certified", "invalid"), map(int, found)))
 
     def ending(self, after: bytes, last: int, count: int) -> list[bytes]:
-        """Blobs in that order, behind one of them, that are kept until an epoch at most."""
+        """Returns up to `count` live blobs after an identifier that are kept until epoch `last` or less, in order."""
         return [it for it, in self.flush().execute(ENDING, (after, self.epoch, last, count))]
 
     def owed(self, until: int, certified: int) -> "Collection[bytes] | Owed":
-        """Blobs in that order that are kept beyond an epoch, and were certified in another one or before."""
+        """Returns the blobs kept beyond epoch `until` that were certified in epoch `certified` or before, in order."""
         return Owed(self, until, certified)
 
     def draw(self, drawn: random.Random) -> Optional[bytes]:
-        """Any blob."""
+        """Returns a live blob at random, or None if there is none."""
         words = "identifier >= ? AND until > ? ORDER BY identifier LIMIT 1"
         found = self.names(words, drawn.randbytes(32), self.epoch) or self.names(words, bytes(32), self.epoch)
         return found[0] if found else None
 
     def forget(self) -> None:
-        """Forgets what was set and is not in the database."""
+        """Drops what is in memory, with the changes that are not in the database."""
         self.kept.clear()
         self.numbers.clear()
 
     def take(self, rows: Iterator[Row]) -> None:
-        """Has these blobs alone; what was here and is no more is over."""
+        """Replaces all blobs by these; blobs that were here and are not among them are over."""
         self.flush()
         self.forget()
         for name in DERIVED:
@@ -244,7 +247,7 @@ class Blobs(Mapping[bytes, Blob]):
 
 
 class Owed:
-    """What `Blobs.owed` tells, which is read some at a time whenever it is gone over, as it may be a lot."""
+    """The blobs of `Blobs.owed`. Each iteration reads them from the database page by page, as they may be many."""
 
     def __init__(self, blobs: Blobs, until: int, certified: int):
         self.blobs, self.values = blobs, (until, certified)
@@ -257,8 +260,8 @@ class Owed:
 
 
 class Over(Blobs):
-    """Blobs over others, which stay as they are; those of one identifier alone are asked for, up to a turn of the
-    epoch."""
+    """Changes over other blobs, which stay as they are. It answers for single identifiers only, and only up to an epoch
+    change."""
 
     def __init__(self, below: Blobs):
         self.below, self.kept = below, {}

@@ -1,4 +1,4 @@
-"""Keys and certificates: authorities that sign for themselves, and names that they sign."""
+"""Keys and certificates: authorities, whose certificates are self-signed, and certificates of names that they sign."""
 import datetime
 import ipaddress
 import os
@@ -12,12 +12,12 @@ from cryptography.hazmat.primitives.asymmetric import ec
 from cryptography.x509.oid import ExtendedKeyUsageOID, NameOID
 
 AUTHORITY_DAYS, DAYS = 3_650.0, 825.0
-EARLIER = datetime.timedelta(hours=1)  # from when on a certificate counts, for clocks that are behind
+EARLIER = datetime.timedelta(hours=1)  # by which a certificate is valid before it was made, for clocks that are slow
 Key = ec.EllipticCurvePrivateKey
 
 
 def write_key(path: pathlib.Path, key: Any) -> None:
-    """Writes a key that its owner alone can read. Of a `Key` some stubs do not know that it can be written."""
+    """Writes a key that only its owner can read. It is not typed as `Key`, as some stubs lack `private_bytes` there."""
     form = serialization.Encoding.PEM, serialization.PrivateFormat.PKCS8, serialization.NoEncryption()
     path.unlink(missing_ok=True)
     with open(os.open(path, os.O_WRONLY | os.O_CREAT | os.O_EXCL, 0o600), "wb") as out:
@@ -27,7 +27,7 @@ def write_key(path: pathlib.Path, key: Any) -> None:
 def read_key(path: pathlib.Path) -> Key:
     key = serialization.load_pem_private_key(path.read_bytes(), None)
     if not isinstance(key, Key):
-        raise ValueError(f"{path} has no key of an elliptic curve")
+        raise ValueError(f"{path} does not contain a key of an elliptic curve")
     return key
 
 
@@ -35,7 +35,7 @@ def read(path: pathlib.Path) -> x509.Certificate:
     try:
         return x509.load_pem_x509_certificate(path.read_bytes())
     except ValueError:
-        raise ValueError(f"{path} has no certificate") from None
+        raise ValueError(f"{path} does not contain a certificate") from None
 
 
 def built(name: str, key: Key, days: float) -> x509.CertificateBuilder:
@@ -48,14 +48,14 @@ def built(name: str, key: Key, days: float) -> x509.CertificateBuilder:
 
 
 def written(path: pathlib.Path, certificate: x509.Certificate) -> None:
-    """Writes a certificate in place of the one before."""
+    """Writes a certificate, and replaces an earlier one at once."""
     fresh = path.with_suffix(".new")
     fresh.write_bytes(certificate.public_bytes(serialization.Encoding.PEM))
     fresh.replace(path)
 
 
 def make_authority(path: pathlib.Path, days: float = AUTHORITY_DAYS) -> None:
-    """Makes PATH.crt over PATH.key. What a key that is there already has signed stays signed by the new certificate."""
+    """Makes PATH.crt for PATH.key, or also a new key if there is none. What an existing key signed remains valid."""
     key_path = path.with_name(f"{path.name}.key")
     if not key_path.exists():
         write_key(key_path, ec.generate_private_key(ec.SECP256R1()))
@@ -67,7 +67,7 @@ def make_authority(path: pathlib.Path, days: float = AUTHORITY_DAYS) -> None:
 
 
 def name_of(text: str) -> x509.GeneralName:
-    """A name in a certificate: an address, or the name of a host or a node."""
+    """Returns a name for a certificate: an IP address, or the name of a host or a node."""
     try:
         return x509.IPAddress(ipaddress.ip_address(text))
     except ValueError:
@@ -75,7 +75,7 @@ def name_of(text: str) -> x509.GeneralName:
 
 
 def make(path: pathlib.Path, authority: pathlib.Path, name: str, known: Iterable[str], days: float = DAYS) -> None:
-    """Makes PATH.key and PATH.crt for a name, by which a server may be known beside others; an authority signs."""
+    """Makes PATH.key, and PATH.crt for a name, signed by an authority. `known` are the names that identify a server."""
     key, signer = ec.generate_private_key(ec.SECP256R1()), read_key(authority.with_name(f"{authority.name}.key"))
     issuer = read(authority.with_name(f"{authority.name}.crt"))
     names = x509.SubjectAlternativeName([name_of(it) for it in dict.fromkeys(known)])
@@ -94,7 +94,7 @@ def common_name(certificate: x509.Certificate) -> str:
 
 
 def names_of(certificate: x509.Certificate) -> list[str]:
-    """By which names a server with this certificate is known."""
+    """Returns the names that identify a server with this certificate."""
     try:
         return [
             str(it.value) for it in certificate.extensions.get_extension_for_class(x509.SubjectAlternativeName).value
@@ -120,7 +120,7 @@ def is_signed(certificate: x509.Certificate, authority: x509.Certificate) -> boo
 
 
 def faults_of(certificate: pathlib.Path, key: pathlib.Path, authority: pathlib.Path, name: Optional[str]) -> list[str]:
-    """What is wrong with a certificate, of this name, its key and who signed it, in words."""
+    """Returns what is wrong with a certificate, its key, its signature and its common name, as sentences."""
     faults: list[str] = []
     found: dict[pathlib.Path, Union[x509.Certificate, Key]] = {}
     for path in (certificate, key, authority):
@@ -143,6 +143,6 @@ def faults_of(certificate: pathlib.Path, key: pathlib.Path, authority: pathlib.P
 
 
 def public(owner: Union[x509.Certificate, Key]) -> bytes:
-    """The public key of a certificate or a key."""
+    """Returns the public key of a certificate or of a key, encoded."""
     form = serialization.PublicFormat.SubjectPublicKeyInfo
     return owner.public_key().public_bytes(serialization.Encoding.DER, form)

@@ -1,8 +1,8 @@
-"""A checkpoint: what a ledger has come to at a place, blobs by their identifiers, as texts that are packed in pieces.
+"""A checkpoint: the state of a ledger at a place, as text in compressed pieces.
 
-Its lines are JSON: `[NAME, VALUE]` and `[NAME, KEY, VALUE]` for what the rules have beside blobs, and then
-`[IDENTIFIER, NUMBER, UNTIL, POSTER, VOTES, CERTIFIED, INVALID]` for each blob. Whoever has the same ledger makes the
-same pieces."""
+Its lines are JSON: `[NAME, VALUE]` and `[NAME, KEY, VALUE]` for the state beside blobs, and then, in the order of
+identifiers, `[IDENTIFIER, NUMBER, UNTIL, POSTER, VOTES, CERTIFIED, INVALID]` for each blob. From the same ledger every
+recorder makes the same pieces."""
 import hashlib
 import json
 import zlib
@@ -10,21 +10,22 @@ from typing import Any, Iterable, Iterator, NamedTuple, Optional
 
 from .entries import Chain
 
-LONGEST = 1_048_576  # bytes of a piece before it is packed
-# Of a blob: identifier, number, until, poster, votes, and in which epochs it was certified and declared invalid.
+LONGEST = 1_048_576  # bytes of a piece before it is compressed
+# Of a blob: identifier, number, until, poster, votes, and the epochs in which it was certified and declared invalid.
 Row = tuple[bytes, int, int, str, str, Optional[int], Optional[int]]
 
 
 class Mark(NamedTuple):
-    """What tells of a checkpoint: its place and epoch, the digests of the entries and of itself, and its pieces."""
+    """Describes a checkpoint: its place and epoch, the digest of the entries up to there (`digest`), the digest of the
+    checkpoint itself (`state`), and the number of its pieces."""
 
     place: int
     epoch: int
     digest: str
     state: str
     pieces: int
-    time: float  # when it was written
-    dropped: bool = False  # whether the entries up to its place are no more
+    time: float  # when it was written, by the clock of the recorder that wrote it
+    dropped: bool = False  # whether the entries up to its place are being dropped, or were
 
     @property
     def chain(self) -> Chain:
@@ -32,7 +33,7 @@ class Mark(NamedTuple):
 
 
 def parted(lines: Iterable[bytes], most: int) -> Iterator[bytes]:
-    """Lines in parts of at most so many bytes, or of one line that is longer."""
+    """Joins lines into parts of at most `most` bytes each; a longer line is a part of its own."""
     part, size = list[bytes](), 0
     for line in lines:
         if part and size + len(line) > most:
@@ -44,7 +45,7 @@ def parted(lines: Iterable[bytes], most: int) -> Iterator[bytes]:
 
 
 def written(fields: dict[str, Any], rows: Iterable[Row]) -> Iterator[bytes]:
-    """The lines of a checkpoint."""
+    """Yields the lines of a checkpoint."""
     for name, value in fields.items():
         keyed = [[name, key, value[key]] for key in sorted(value)] if isinstance(value, dict) else [[name, value]]
         yield from map(line_of, keyed)
@@ -57,7 +58,7 @@ def line_of(values: Any) -> bytes:
 
 
 def read(pieces: Iterable[bytes], fields: dict[str, Any]) -> Iterator[Row]:
-    """Puts into `fields` what packed pieces say beside blobs, and gives the rows of these."""
+    """Yields the rows of blobs in compressed pieces, and puts the rest of the state into `fields` meanwhile."""
     for piece in pieces:
         for line in zlib.decompress(piece).splitlines():
             name, *values = json.loads(line)
@@ -70,11 +71,12 @@ def read(pieces: Iterable[bytes], fields: dict[str, Any]) -> Iterator[Row]:
 
 
 def state_of(pieces: Iterable[bytes]) -> str:
-    """The digest of a checkpoint's packed pieces; raises `ValueError` where one is not as it was written."""
+    """Returns the digest of a checkpoint from its compressed pieces; raises `ValueError` if one cannot be
+    decompressed."""
     digest = hashlib.sha256()
     try:
         for piece in pieces:
             digest.update(zlib.decompress(piece))
     except zlib.error as fault:
-        raise ValueError(f"a piece of the checkpoint is torn: {fault}") from None
+        raise ValueError(f"a piece of the checkpoint is damaged: {fault}") from None
     return digest.hexdigest()

@@ -1,4 +1,4 @@
-"""Batches of entries in etcd, over its JSON gateway. Nobody but a recorder speaks to etcd."""
+"""Batches of entries in etcd, over its JSON gateway. Only recorders talk to etcd."""
 import asyncio
 import base64
 import contextlib
@@ -17,21 +17,21 @@ from .entries import Chain
 
 FIRST, LAST, HEAD = "/walrus/000000000001", "/walrus/999999999999", "/walrus/head"
 MARK, PIECES = "/walrus/checkpoint", "/walrus/checkpoint/"
-DEFRAGMENTING, TURN = "/walrus/defragmenting", 600  # whose turn it is, and for how many seconds at most
+DEFRAGMENTING, TURN = "/walrus/defragmenting", 600  # has the turn to defragment; seconds of a turn at most
 PAGE, SILENCE, LONGEST_LINE = 16, 60.0, 2**20  # batches that are read at once; seconds; bytes
-WIDTHS = 64, 4_096, 262_144  # places among which the key of a batch is looked for: etcd would sort all there are
+WIDTHS = 64, 4_096, 262_144  # places among which a batch's key is looked for, as etcd sorts all keys in the range
 COMPACTED, DROPPED = 5_000, 500  # revisions between two compactions; keys that are dropped at once
-NO_SPACE = "database space exceeded"  # as etcd says it
+NO_SPACE = "database space exceeded"  # in etcd's own words
 QUOTA = re.compile(r"^etcd_server_quota_backend_bytes (\S+)$", re.MULTILINE)
 T = TypeVar("T")
 
 
 class Failed(ConnectionError):
-    """What etcd did not do, in its own words."""
+    """A call to etcd failed; the message has etcd's own words."""
 
 
 class Gone(Exception):
-    """The entries that were asked for are no more: a checkpoint stands for them."""
+    """The requested entries or pieces were dropped: a later checkpoint replaces them."""
 
 
 def coded(data: str) -> str:
@@ -43,23 +43,23 @@ def decoded(pair: dict[str, Any], name: str = "value") -> str:
 
 
 def value_of(found: Optional[list[dict[str, Any]]]) -> str:
-    """What a key has that was asked for; nothing if it is not there."""
+    """Returns the value of the key that was asked for; an empty text if there is no such key."""
     return decoded(found[0]) if found else ""
 
 
 def key_of(place: int) -> str:
-    """The key of the batch that begins with a place."""
+    """Returns the key of the batch that begins with this place."""
     return f"/walrus/{place:012d}"
 
 
 def key_of_piece(place: int, number: int) -> str:
-    """The key of a piece of the checkpoint of a place."""
+    """Returns the key of a piece of the checkpoint of this place."""
     return f"{PIECES}{place:012d}/{number:06d}"
 
 
 @dataclasses.dataclass(frozen=True)
 class Batch:
-    """Entries that were appended together, and what the ledger was before them."""
+    """Entries that were appended together, and the chain of the ledger before them."""
 
     before: Chain
     entries: list[str]
@@ -78,11 +78,11 @@ class Batch:
 
     @functools.cached_property
     def line(self) -> bytes:
-        """What is told to whoever has heard the ledger up to here; it is made once for all of them."""
+        """The line sent to followers that have heard the ledger up to this batch; made once for all of them."""
         return line_of({"entries": self.entries, "digest": self.after.digest.hex()})
 
     def behind(self, place: int) -> "Batch":
-        """What of it comes behind a place."""
+        """Returns the part of this batch after a place."""
         known = max(0, place - self.before.place)
         return Batch(self.before.behind(self.entries[:known]), self.entries[known:]) if known else self
 
@@ -96,7 +96,7 @@ class Batch:
 
 
 class Etcd:
-    """The batches in etcd, reached with a certificate of the ledger's own authority."""
+    """A client of etcd with a certificate of the ledger's own authority. Its calls raise `Failed`."""
 
     def __init__(self, url: str, authority: str, certificate: str, key: str):
         context = ssl.create_default_context(cafile=authority)
@@ -106,7 +106,7 @@ class Etcd:
         self.url, self.aclose, self.revision, self.compacted = url, self.session.close, 0, 0
 
     async def call(self, path: str, body: dict[str, Any], seconds: float = 10) -> dict[str, Any]:
-        """One call of etcd's JSON gateway."""
+        """Calls etcd's JSON gateway once."""
 
         async def ask() -> dict[str, Any]:
             limit = aiohttp.ClientTimeout(total=seconds)
@@ -119,22 +119,23 @@ class Etcd:
         return await self.asked(ask())
 
     async def asked(self, work: Coroutine[Any, Any, T]) -> T:
-        """What etcd answers, in a task of its own, as deadlines of aiohttp 3.8 disturb those of asyncio around them."""
+        """Awaits etcd's answer in a task of its own, as deadlines of aiohttp 3.8 disturb asyncio's around them."""
         try:
             return await asyncio.create_task(work)
         except (aiohttp.ClientError, OSError, TimeoutError, ValueError) as fault:
             raise Failed(f"etcd at {self.url} does not answer: {fault or 'it is too slow'}") from fault
 
     async def range(self, first: str, last: str = "", **words: Any) -> list[dict[str, Any]]:
-        """The pairs with the keys from one on, up to another one; where none is named, of that one alone."""
+        """Returns the pairs with keys from `first` to before `last`, or the pair of `first` if no `last` is given."""
         span = {"key": coded(first), **({"range_end": coded(last)} if last else {}), **words}
         return list((await self.call("kv/range", span)).get("kvs", []))
 
     async def replace(
         self, key: str, old: str, puts: dict[str, str], *others: str, lease: str = "0"
     ) -> tuple[str, list[dict[str, Any]]]:
-        """Puts values where a key has an old one, or none if that is empty; what it has then, and where it had another
-        one, some pairs from other keys on. With a lease, what is put goes when that ends."""
+        """Puts values if a key still has its old value, or does not exist if `old` is empty. Returns the key's value
+        after that, and, if nothing was put, some pairs from each of the other keys on. What is put ends with its
+        lease."""
         compare = {"target": "VALUE", "value": coded(old)} if old else {"target": "CREATE", "create_revision": "0"}
         words: dict[str, Any] = {"compare": [{"key": coded(key), "result": "EQUAL", **compare}]}
         pairs = [{"key": coded(it), "value": coded(puts[it]), "lease": lease} for it in puts]
@@ -149,11 +150,12 @@ class Etcd:
         return value_of(found[0]), sum(found[1:], [])
 
     async def head(self) -> str:
-        """What stands at the head; nothing before the ledger's birth."""
+        """Returns the value of the head key; an empty text before the ledger is created."""
         return value_of(await self.range(HEAD))
 
     async def batches(self, after: int) -> list[Batch]:
-        """Some of the batches from the one on that has the entry behind a place, which the ledger has; or `Gone`."""
+        """Returns some batches, beginning with the one that has the entry after a place; the ledger must be longer than
+        that. Raises `Gone` if that entry was dropped."""
         found = await self.range(key_of(after + 1), LAST, limit=PAGE)
         for width in () if found and decoded(found[0], "key") == key_of(after + 1) else WIDTHS:
             keys = await self.range(key_of(max(1, after - width)), key_of(after + 1), keys_only=True)
@@ -162,28 +164,30 @@ class Etcd:
                 break
         batches = [it for it in map(Batch.read, found) if it.last > after]
         if not batches or batches[0].before.place > after:
-            raise Gone(f"the entries behind place {after} are dropped")
+            raise Gone(f"the entries after place {after} are dropped")
         return batches
 
     async def append(self, head: str, after: str, batch: Optional[Batch] = None) -> tuple[str, list[Batch]]:
-        """Puts a batch and the new head where the old one stands; what stands there then, and what came instead."""
+        """Puts a batch and the new head if the head is still `head`. Returns the head after that, and, if another
+        recorder was first, the batches that begin where this one would have."""
         puts = {key_of(batch.before.place + 1): batch.value()} if batch else {}
         head, found = await self.replace(HEAD, head, {HEAD: after, **puts}, *puts)
         others = [*map(Batch.read, found)]
         return head, others if batch and others and others[0].before.place == batch.before.place else []
 
     async def mark(self) -> Optional[Mark]:
-        """What tells of the checkpoint; none before the first one."""
+        """Returns the mark of the current checkpoint; None before the first one."""
         found = value_of(await self.range(MARK))
         return Mark(**json.loads(found)) if found else None
 
     async def put_mark(self, mark: Mark, before: Optional[Mark]) -> None:
-        """Puts a mark where another one stands, or none."""
+        """Replaces a mark; does nothing if the mark in etcd is not `before`, where None means no mark."""
         old, new = (json.dumps(it._asdict()) if it else "" for it in (before, mark))
         await self.replace(MARK, old, {MARK: new})
 
     async def put_piece(self, place: int, number: int, piece: bytes) -> None:
-        """Puts a piece of a checkpoint, packed, where none is, as another recorder may put its own, of this place."""
+        """Puts a compressed piece of a checkpoint unless it is there already, as another recorder may write a
+        checkpoint of the same place. Raises `Failed` if that one differs."""
         key, value = coded(key_of_piece(place, number)), base64.b64encode(piece).decode()
         words: dict[str, Any] = {"compare": [{"key": key, "target": "CREATE", "create_revision": "0"}]}
         words["success"] = [{"request_put": {"key": key, "value": value}}]
@@ -192,18 +196,18 @@ class Etcd:
             return
         found = base64.b64decode(answer["responses"][0]["response_range"]["kvs"][0]["value"])
         with contextlib.suppress(zlib.error):
-            if zlib.decompress(found) == zlib.decompress(piece):  # another zlib may pack the same into other bytes
+            if zlib.decompress(found) == zlib.decompress(piece):  # another zlib may compress the same into other bytes
                 return
-        raise Failed("another recorder writes another checkpoint of this place, such as one of another version")
+        raise Failed("another recorder writes a different checkpoint of this place; it may be of another version")
 
     async def piece(self, place: int, number: int) -> bytes:
-        """A piece of a checkpoint, packed."""
+        """Returns a piece of a checkpoint, compressed; raises `Gone` if it was dropped."""
         if not (found := await self.range(key_of_piece(place, number))):
-            raise Gone("another checkpoint stands for this one")
+            raise Gone("a later checkpoint has replaced this one")
         return base64.b64decode(found[0]["value"])
 
     async def drop(self, mark: Mark) -> None:
-        """Drops the batches up to a checkpoint, and those before it; some at a time, as others wait meanwhile."""
+        """Drops the batches up to a checkpoint, and the checkpoints before it: some at a time, as others wait."""
         for first, last in ((FIRST, key_of(mark.place + 1)), (PIECES, key_of_piece(mark.place, 0))):
             while found := await self.range(first, last, limit=DROPPED, keys_only=True):
                 end = coded(decoded(found[-1], "key") + "\0")
@@ -212,35 +216,35 @@ class Etcd:
         await self.compact(0)
 
     async def compact(self, most: int = COMPACTED) -> None:
-        """Has etcd forget what was replaced or dropped, once there are more revisions than this."""
+        """Has etcd forget what was replaced or dropped, if more than `most` revisions were made since the last time."""
         if self.revision > self.compacted + most:
             self.compacted = self.revision
             with contextlib.suppress(Failed):  # another recorder has done so
                 await self.call("kv/compaction", {"revision": str(self.revision)})
 
     async def quota(self) -> float:
-        """The bytes of its file above which the member beside this appends nothing, one of the numbers that it tells to
-        Prometheus."""
+        """Returns the quota of the recorder's member of etcd in bytes, from that member's metrics for Prometheus. Once
+        its file is larger, it appends nothing."""
 
         async def ask() -> float:
             limit = aiohttp.ClientTimeout(total=10)
             async with self.session.get(f"{self.url}/metrics", timeout=limit) as said:
                 found = QUOTA.search(await said.text())
             if not found:
-                raise OSError("/metrics does not tell its quota")
+                raise OSError("/metrics does not have its quota")
             return float(found[1])
 
         return await self.asked(ask())
 
     async def sizes(self, seconds: float = 10) -> tuple[int, int]:
-        """The bytes of the file of the member beside this, and those of them that are in use."""
+        """Returns the bytes of the file of the recorder's member of etcd, and those of them that are in use."""
         told = await self.call("maintenance/status", {}, seconds)
         return int(told.get("dbSize", 0)), int(told.get("dbSizeInUse", 0))
 
     async def defragment(self) -> None:
-        """Has that member give back what is not in use, unless it is another one's turn: it answers nobody else
-        meanwhile. If it does not say in time that it has done so, it may still be at it, and keeps its turn. Above its
-        quota etcd gives no turns, and nobody else waits for it."""
+        """Defragments the recorder's member, which answers nobody meanwhile, unless it is another member's turn. If the
+        call is not answered in time, the member may still be defragmenting, so it keeps its turn until that expires.
+        Above its quota etcd gives no turns: the member defragments without one, as nobody waits for it then."""
         try:
             lease = str((await self.call("lease/grant", {"TTL": str(TURN)}))["ID"])
             holder, _ = await self.replace(DEFRAGMENTING, "", {DEFRAGMENTING: lease}, lease=lease)
@@ -254,7 +258,7 @@ class Etcd:
             await self.call("lease/revoke", {"ID": lease})
 
     async def watch(self, hear: Callable[[str], None]) -> None:
-        """Tells what stands at the head soon after it is another one: a hint, as what is missed is asked for anyway."""
+        """Calls `hear` with the head soon after each change. It is a hint: a recorder asks for the head anyway."""
         limit = aiohttp.ClientTimeout(total=None, sock_connect=5, sock_read=SILENCE)
         while True:
             with contextlib.suppress(aiohttp.ClientError, OSError, TimeoutError, ValueError, KeyError):

@@ -1,7 +1,7 @@
-"""The files of all machines of a network, made where its authorities' keys lie, to be copied from there.
+"""The files of all machines of a network, made in the folder that has its authorities' keys, and copied from there.
 
-FOLDER/network.json is the plan. FOLDER/hosts/HOST is what HOST has as /etc/walrus, and FOLDER/users/NAME what a user
-has in a folder of its own."""
+FOLDER/network.json is the plan. FOLDER/hosts/HOST becomes /etc/walrus on HOST, and FOLDER/users/NAME a folder of that
+user's."""
 import dataclasses
 import json
 import pathlib
@@ -18,37 +18,38 @@ RECORDER_PORT, GATEWAY_PORT, CLIENTS, MEMBERS = 31_416, 31_415, 2_379, 2_380
 
 
 def owners_of(places: Iterable[Place]) -> list[str]:
-    """The nodes of the shards of a committee."""
+    """Returns the node of each shard of a committee, by the number of shards that each place has."""
     return [place.name for place in places for _ in range(place.shards)]
 
 
 def must_fit(faults: int, places: Sequence[Place], concentrated: bool) -> None:
-    """Raises where nodes make no committee, or a machine has more than f shards without a word."""
+    """Raises `Unfounded` if nodes do not make a committee, or a machine has more than f shards and `concentrated` does
+    not allow that."""
     owners, needed = owners_of(places), 3 * faults + 1
     if not 0 < faults <= MOST_FAULTS:
         raise Unfounded(f"faults is a number from 1 to {MOST_FAULTS}")
     if len(owners) != needed:
-        raise Unfounded(f"with {faults} faults the nodes have {needed} shards together, not {len(owners)}")
+        raise Unfounded(f"with {faults} faults the nodes must have {needed} shards in total, not {len(owners)}")
     if len(entry_key(OPERATOR, "begin", 0, faults, ",".join(owners))) > LONGEST:
         raise Unfounded(f"the names of {needed} shards are too long for one entry: take shorter ones")
     for host in {place.host for place in places}:
         count = sum(place.shards for place in places if place.host == host)
         if count > faults and not concentrated:
-            text = f"{host} has {count} shards, and the network bears the loss of {faults}"
-            raise Unfounded(f"{text}: use more machines, or say --concentrated")
+            text = f"{host} has {count} shards, and the network tolerates the loss of {faults}"
+            raise Unfounded(f"{text}: use more machines, or give --concentrated")
 
 
 def must_be_named(
     nodes: Sequence[Place], gateways: Sequence[Place], users: Sequence[str], known: Iterable[str] = ()
 ) -> None:
-    """Raises where one of these cannot have its name, or where two would have one, be it in another case, as TLS takes
-    one for the other. `known` is there already."""
+    """Raises `Unfounded` if one of these cannot have its name, or if two names, with those in `known`, differ at most
+    by case, as TLS takes one for the other."""
     for name in users:
         if not can_be_named(name) or name.lower() in KEPT and name != OPERATOR:
             raise Unfounded(f"{name} cannot be a user's name")
     for place in nodes:
         if not HOST.fullmatch(place.host):
-            raise Unfounded(f"{place.name}: the ledger takes no address of a machine called {place.host}")
+            raise Unfounded(f"{place.name}: the ledger does not accept an address like {place.host}")
     there, names = {*map(str.lower, known)}, [*users, *(it.name for it in [*nodes, *gateways])]
     for name in names:
         if name.lower() in there:
@@ -58,19 +59,19 @@ def must_be_named(
 
 
 def write_plan(folder: pathlib.Path, plan: dict[str, Any]) -> None:
-    """Writes a plan in place of the one before, which stays if the disk does not take it."""
+    """Replaces a plan; if the disk does not take the new one, the old one stays."""
     with written_whole(str(folder / PLAN)) as out:
         out.write(json.dumps(plan, indent=1).encode())
 
 
 def remove_folder(folder: pathlib.Path) -> None:
-    """Removes a folder, where it is not gone already."""
+    """Removes a folder if it exists."""
     if folder.exists():
         shutil.rmtree(folder)
 
 
 class Founding:
-    """The folder of who founds a network: it need not be on any of its machines."""
+    """The folder in which a network is founded; it need not be on one of the network's machines."""
 
     def __init__(self, folder: pathlib.Path, plan: Optional[dict[str, Any]] = None):
         self.folder = folder
@@ -79,11 +80,11 @@ class Founding:
             raise Unfounded(f"{folder} has no {PLAN}: walrus-net found makes it")
         self.plan: dict[str, Any] = json.loads(path.read_text()) if plan is None else plan
         if "hosts" not in self.plan:
-            raise Unfounded(f"{folder} is a network on one machine: network/up --add adds its nodes")
+            raise Unfounded(f"{folder} is a network on one machine: use network/up --add to add nodes")
 
     @classmethod
     def begin(cls, folder: pathlib.Path, plan: dict[str, Any], days: float) -> "Founding":
-        """Makes a folder with the authorities. It has a network once the plan is saved."""
+        """Makes a folder with the authorities. It counts as a network once the plan is saved."""
         if (folder / PLAN).exists():
             raise Unfounded(f"{folder} has a network already")
         folder.mkdir(parents=True, mode=0o700, exist_ok=True)
@@ -92,18 +93,18 @@ class Founding:
         return cls(folder, {**plan, "hosts": {}})
 
     def save(self) -> None:
-        """Writes the plan, to the folders of users too, and last where it counts."""
+        """Writes the plan to the folders of users, and last to the network's own folder, where it counts."""
         for path in [*(self.folder / "users").glob("*"), self.folder]:
             write_plan(path, self.plan)
 
     def machine(self, host: str, *services: str) -> Machine:
-        """The machine of a host, which then runs these services too."""
+        """Returns the machine of a host, and adds these services to those that it runs."""
         self.plan["hosts"].setdefault(host, []).extend(services)
         prefix, into = self.plan["prefix"], self.folder / "hosts" / host
         return Machine(self.folder, into, f"{prefix}/etc/walrus", f"{prefix}/var/lib/walrus", self.plan)
 
     def give_units(self) -> None:
-        """Gives each machine the units of this version, also where it has those of an earlier one."""
+        """Gives each machine the units of this version, also in place of those of an earlier one."""
         units = TOP / "network" / "units"
         for host in self.plan["hosts"] if units.is_dir() and not self.plan["prefix"] else ():
             shutil.copytree(units, self.folder / "hosts" / host / "units", dirs_exist_ok=True)
@@ -112,7 +113,7 @@ class Founding:
         return [Place(name, *it) for name, it in self.plan["nodes"].items()]
 
     def add(self, nodes: Sequence[Place], gateways: Sequence[Place], users: Sequence[str]) -> None:
-        """Makes what these have, once all of them can be named, and saves the plan."""
+        """Makes the files of these nodes, gateways and users if all can have their names, and saves the plan."""
         must_be_named(nodes, gateways, users, [*self.plan["nodes"], *self.plan["gateways"], *self.plan["users"]])
         for place in nodes:
             self.add_node(place)
@@ -136,8 +137,8 @@ class Founding:
         Machine(self.folder, self.folder / "users" / name, "", "", self.plan).sign(name, name, name)
 
     def remove(self, name: str) -> str:
-        """Forgets a node, a gateway or a user, and its key; where it was. Its files may be gone already, if the plan
-        was not saved after that."""
+        """Removes a node, a gateway or a user with its key; returns its host, or `users`. Its files may be gone
+        already, if an earlier call ended before it saved the plan."""
         if name in self.plan["users"]:
             self.plan["users"].remove(name)
             remove_folder(self.folder / "users" / name)
@@ -146,7 +147,7 @@ class Founding:
             if name in self.plan[kind]:
                 host = str(self.plan[kind].pop(name)[0])
                 self.plan["hosts"][host].remove(f"walrus-{kind.removesuffix('s')}@{name}")
-                for end in ("toml", "crt", "key"):  # and not all that begins so, as a name may have dots
+                for end in ("toml", "crt", "key"):  # not every file with that prefix, as names may have dots
                     (self.folder / "hosts" / host / f"{name}.{end}").unlink(missing_ok=True)
                 if not self.plan["hosts"][host]:
                     del self.plan["hosts"][host]
@@ -155,8 +156,9 @@ class Founding:
         raise Unfounded(f"{name} is no node, gateway or user of {self.folder}")
 
     def renew(self, named: Sequence[str], within: float, days: float) -> list[pathlib.Path]:
-        """Makes certificates anew: those named, or those that end within so many days; the paths that changed. A copy
-        of an authority that is not the one here is replaced in any case: a run before may have been interrupted."""
+        """Renews the named certificates, or those that expire within some days; returns the paths that changed. `days`
+        is how long new ones are valid, except those of authorities. Copies of an authority's certificate that differ
+        from the one here are always replaced, as an earlier run may have been interrupted."""
         changed = []
         for name in (AUTHORITY, ETCD_AUTHORITY):
             path = self.folder / f"{name}.crt"
@@ -182,13 +184,13 @@ class Founding:
 
 
 def found(folder: pathlib.Path, faults: int, ledger: Sequence[str], nodes: Sequence[str], words: Any) -> Founding:
-    """Founds a network on several machines: writes all that each of them needs."""
+    """Founds a network on several machines: writes all files that each of them needs."""
     recorders = [Place.read(text, f"recorder-{number}", RECORDER_PORT) for number, text in enumerate(ledger)]
     places = [Place.read(text) for text in nodes]
     gateways = [Place.read(text, port=GATEWAY_PORT) for text in words.gateways]
     must_fit(faults, places, words.concentrated)
     if not recorders or len({it.host for it in recorders}) < len(recorders):
-        raise Unfounded("name the machines of the ledger, each once: an odd number of them")
+        raise Unfounded("name the machines of the ledger, each of them once; it is best to have an odd number of them")
     users = [OPERATOR, *words.users]
     must_be_named(places, gateways, users)
     urls = {

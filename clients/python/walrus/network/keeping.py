@@ -1,6 +1,6 @@
-"""What is over goes: a recorder writes what a ledger has come to behind a turn of the epoch, and drops what was before.
+"""Checkpoints: after an epoch change a recorder writes the state of its ledger to etcd, and drops the entries before.
 
-Several recorders may do so at once: whoever has the same ledger writes the same."""
+Several recorders may do so at once, as all that have the same ledger write the same."""
 import asyncio
 import contextlib
 import hashlib
@@ -14,10 +14,10 @@ from .checkpoint import Mark
 from .etcd import Failed
 from .recorder import Recorder
 
-PAUSE, IDLE = 5.0, 30.0  # seconds between two looks; without an entry, until etcd gives back what it has free
+PAUSE, IDLE = 5.0, 30.0  # seconds between two looks; seconds without a new entry until etcd may be defragmented
 TRIES = 10  # to put a piece of a checkpoint
 FULL = 0.75  # of etcd's quota: the rest has room for what comes while entries are dropped, and for the next checkpoint
-SLACK = 67_108_864  # bytes that etcd may have free
+SLACK = 67_108_864  # free bytes that etcd may always have in its file
 
 
 class Keeper:
@@ -25,7 +25,7 @@ class Keeper:
 
     def __init__(self, recorder: Recorder, patience: float):
         self.recorder, self.etcd, self.patience = recorder, recorder.etcd, patience
-        self.said, self.dropped = "", 0  # the place up to which nothing is known here any more
+        self.said, self.dropped = "", 0  # the last failure; the place up to which this recorder has dropped everything
         self.seen = dict[int, float]()  # when the checkpoint of a place was first seen, by the monotonic clock
 
     async def run(self) -> None:
@@ -34,21 +34,22 @@ class Keeper:
             try:
                 await self.look()
                 self.said = ""
-            except (Failed, sqlite3.OperationalError) as fault:  # or the disk does not take a checkpoint
+            except (Failed, sqlite3.OperationalError) as fault:  # etcd fails, or the disk does, such as when it is full
                 if str(fault) != self.said:
                     print(f"nothing is dropped from etcd: {fault}; it is tried again", file=sys.stderr, flush=True)
                 self.said = str(fault)
 
     async def look(self) -> None:
-        """Does what is to be done now. While a checkpoint waits for nodes no other one is written: the wait would begin
-        anew at each turn of the epoch, and not end where epochs are shorter than `patience`."""
+        """Takes the next step: marks a checkpoint as dropped, drops what is before it, or writes the next one; and
+        defragments etcd when it is idle. While a checkpoint waits for nodes no other one is written: the wait would
+        begin again at each epoch change, and would never end if epochs are shorter than `patience`."""
         recorder, mark = self.recorder, await self.etcd.mark()
         now = time.monotonic()
         if mark and not mark.dropped:
             if self.is_over(mark) or await self.is_full():
                 await self.etcd.put_mark(mark._replace(dropped=True), mark)
         elif mark and mark.place > self.dropped:
-            await self.etcd.drop(mark)  # each recorder does so, as who has put the mark may have ended behind it
+            await self.etcd.drop(mark)  # each recorder does so, as the one that set the mark may have ended since
             await recorder.state.forget_places(mark.place)
             self.dropped = mark.place
         elif recorder.ledger.epoch > (mark.epoch if mark else 0) and now > recorder.turned and recorder.state.settle():
@@ -59,24 +60,25 @@ class Keeper:
                 await self.etcd.defragment()
 
     def is_over(self, mark: Mark) -> bool:
-        """Whether all nodes of both committees have told that they are past a checkpoint, which a recorder knows that
-        has read so far, or it was too long: also by a clock of its own, as that of who has written it may have been
+        """Whether all nodes of both committees have posted that they are past a checkpoint's epoch, which this recorder
+        knows once it has read up to its place, or `patience` is over. That counts from when the checkpoint was written,
+        and by this recorder's own clock also from when it first saw the checkpoint, as the writer's clock may have been
         ahead."""
         ledger, seen = self.recorder.ledger, self.seen.setdefault(mark.place, time.monotonic())
         late = time.time() > mark.time + self.patience or time.monotonic() > seen + self.patience
         has_read = self.recorder.chain.place >= mark.place
-        waited = [it for it in ledger.nodes if it not in ledger.expelled]  # nobody hears who is expelled
+        waited = [it for it in ledger.nodes if it not in ledger.expelled]  # no entry of an expelled name counts
         return late or has_read and all(ledger.past.get(it, 0) >= mark.epoch for it in waited)
 
     async def is_full(self) -> bool:
-        """Whether etcd has so much that no node is waited for any longer: above its quota nothing could be appended,
-        and no checkpoint marked as dropped."""
+        """Whether etcd uses so much of its quota that nodes are not waited for any longer: above the quota nothing
+        could be appended, and no checkpoint could be marked as dropped."""
         _, used = await self.etcd.sizes()
-        return 0 < FULL * await self.etcd.quota() < used  # below 0 it is none
+        return 0 < FULL * await self.etcd.quota() < used  # a negative quota means none
 
     async def write(self, before: Optional[Mark]) -> None:
-        """Writes a checkpoint of what the ledger is now; the mark last, so that nobody finds half of it, and only where
-        no other recorder has put one meanwhile, which may have dropped what is older."""
+        """Writes a checkpoint of the present ledger. The mark comes last, so that nobody finds half a checkpoint, and
+        only if no other recorder has put one meanwhile, which may have dropped what is older."""
         recorder = self.recorder
         chain, epoch, count, digest = recorder.chain, recorder.ledger.epoch, 0, hashlib.sha256()
         pieces = recorder.state.written()
@@ -94,8 +96,8 @@ class Keeper:
         await self.etcd.put_mark(mark, before)
 
     async def put_piece(self, place: int, number: int, piece: bytes) -> None:
-        """Puts a piece of a checkpoint, also while etcd is slow: one that is begun anew has another place, and all that
-        was put of this one would lie beside it until a later one is over."""
+        """Puts a piece of a checkpoint, and retries while etcd is slow: a checkpoint begun anew would have another
+        place, and the pieces of this one would stay in etcd until a later checkpoint is over."""
         for _ in range(TRIES - 1):
             with contextlib.suppress(Failed):
                 return await self.etcd.put_piece(place, number, piece)

@@ -1,8 +1,8 @@
-"""The rules of the ledger: what its entries, in their order, come to.
+"""The rules of the ledger: the state that results from its entries in their order.
 
-An entry has a place: the first one has the place 1, and no place is left out. An entry that speaks of another epoch
-than the one in which it comes is void: it was overtaken, and its poster may post anew. So is what goes beyond a
-poster's share, and what is posted under a name that the operator has expelled."""
+Places of entries are consecutive and begin with 1. An entry that names another epoch than the one at its place is void:
+an epoch change came first, and its poster may post it anew. Entries beyond a poster's share are void too, and so are
+entries posted under a name that the operator has expelled."""
 import collections
 import copy
 import dataclasses
@@ -13,48 +13,50 @@ from .blobs import Blob, Blobs, Over, Owed
 from .entries import ACK, ADDRESS, ATTEST, LAST_EPOCH, LAST_UNTIL, OPERATOR, PAST, REGISTER, Entry, entry_key
 
 __all__ = ["ACK", "ADDRESS", "ATTEST", "LAST_UNTIL", "OPERATOR", "PAST", "REGISTER", "Entry", "Ledger", "entry_key"]
-ORDERS = "begin", "share", "expel", "concentrated", "calendar"  # what only the operator says
-ROOM = 1_048_576  # entries that a poster's registrations of an epoch may cause, each node's word among them
-ADDRESSES = 64  # of a name in an epoch: a node tells one at each start, if it is another one than before
-FORMLESS = "it has not the form of an entry"
-REFUSED = {  # entries that change nothing: the first word of their line, and what their poster is told
+ORDERS = "begin", "share", "expel", "concentrated", "calendar"  # kinds that only the operator may post
+ROOM = 1_048_576  # entries that a poster's registrations in an epoch may cause, counting each node's acknowledgement
+ADDRESSES = 64  # of a name that count in an epoch: a node posts one at each start, if it differs from the last one
+FORMLESS = "it does not have the form of an entry"
+REFUSED = {  # entries that change nothing: their outcome, or its first word, and the reason for their poster
     "refused past": "that epoch is past",
-    "refused moving": "the epoch changes just now: post it again once it has changed",
+    "refused moving": "the epoch is changing: post it again after the change",
     "refused last-epoch": "there is no later epoch",
     "unregistered": "the blob is not registered",
     "expires": "the blob ends with this epoch",
     "waiting": "too few shards of the next committee are ready",
-    "already": "it was said before",
+    "already": "the same was posted before",
 }
 
 
 def refusal(word: str) -> str:
-    """Why an entry with these words changes nothing; nothing where it does."""
+    """Returns why an entry with this outcome changes nothing; an empty text if it changes something."""
     return REFUSED.get(word) or REFUSED.get(word.partition(" ")[0]) or ""
 
 
 @functools.lru_cache(4_096)
 def owned(owners: tuple[str, ...], node: str) -> frozenset[int]:
-    """The shards of a node in a committee."""
+    """Returns the shards of a node in a committee."""
     return frozenset(shard for shard, owner in enumerate(owners) if owner == node)
 
 
 class Void(Exception):
-    """Why an entry is void, in a sentence for its poster."""
+    """An entry is void; the message is a sentence for its poster."""
 
 
 class Ledger:
-    """What the entries so far come to. `now` and `next` are the nodes of the shards of the two committees."""
+    """The state after the entries so far. `now` and `next` list the node of each shard in the present committee and in
+    the next one; `next` is empty unless the epoch is changing. An *outcome* is an entry's line in a report of `walrus
+    replay`."""
 
     def __init__(self, blobs: Optional[Blobs] = None) -> None:
         self.faults = self.epoch = self.revision = 0
         self.now, self.next = (), ()  # type: tuple[str, ...], tuple[str, ...]
         self.ready, self.blobs = frozenset[int](), Blobs() if blobs is None else blobs
-        self.posted, self.shares = collections.Counter[str](), dict[str, int]()  # registrations, and who may have more
+        self.posted, self.shares = collections.Counter[str](), dict[str, int]()  # used of each share; shares if ordered
         self.expelled, self.addresses = frozenset[str](), dict[str, tuple[str, int]]()
-        self.addressed = collections.Counter[str]()  # how many addresses of each name counted in this epoch
-        self.past, self.concentrated = dict[str, int](), -1  # who has an epoch on its disk; who may be uneven
-        self.calendar = 0, 0, 0  # an epoch, the minute since 1970 in which it begins, and how many each has; 0: no plan
+        self.addressed = collections.Counter[str]()  # the number of addresses of each name that counted in this epoch
+        self.past, self.concentrated = dict[str, int](), -1  # which epoch each node is past; which one may be uneven
+        self.calendar = 0, 0, 0  # an epoch, the minute since 1970 in which it begins, and minutes per epoch; 0: no plan
 
     @property
     def moving(self) -> bool:
@@ -78,11 +80,11 @@ class Ledger:
         return 2 * self.faults + 1
 
     def owners(self, epoch: int) -> tuple[str, ...]:
-        """The nodes of the shards in the committee of an epoch: this one, or the next one."""
+        """Returns the node of each shard in the committee of an epoch: the present one or the next one."""
         return (self.now, self.next)[epoch - self.epoch]
 
     def shards_of(self, node: str, epoch: Optional[int] = None) -> list[int]:
-        """The shards of a node in the committee of an epoch, the writing one where none is named."""
+        """Returns the shards of a node in the committee of an epoch, or in the writing committee if none is named."""
         return sorted(owned(self.writing if epoch is None else self.owners(epoch), node))
 
     def certificate(self, identifier: bytes) -> Optional[tuple[int, int]]:
@@ -90,8 +92,8 @@ class Ledger:
         return blob.quorum(ACK, self.quorum) if blob else None
 
     def certified_before(self, identifier: bytes, epoch: int) -> int:
-        """How many shards acknowledged a blob when it was certified before an epoch, in which nobody need do so again;
-        none if it was not."""
+        """Returns the number of shards in a blob's certificate if that is from before an epoch, so that nobody need
+        acknowledge the blob in that epoch; otherwise 0."""
         first, count = self.certificate(identifier) or (epoch, 0)
         return count if first < epoch else 0
 
@@ -100,31 +102,32 @@ class Ledger:
         return bool(blob and blob.quorum(ATTEST, self.quorum))
 
     def home_epoch(self, identifier: bytes) -> int:
-        """The epoch of the committee that answers for a blob."""
+        """Returns the epoch of the committee that answers for a blob."""
         blob = self.blobs.get(identifier)
         moved = self.moving and blob and len(blob.votes[ACK].get(self.writing_epoch, ())) >= self.quorum
         return self.epoch + bool(moved)
 
     def must_hold(self) -> Collection[bytes] | Owed:
-        """What each shard of the next committee must be settled for: what was certified when the move began."""
+        """Returns the blobs for which each shard of the next committee must be settled: those that were certified
+        before the epoch change began and do not end with it."""
         return self.blobs.owed(self.writing_epoch, self.epoch) if self.moving else []
 
     def voted(self, kind: str, identifier: bytes, node: str) -> bool:
-        """Whether a node said so in the writing epoch."""
+        """Whether all shards of a node have acknowledged or attested (`kind`) a blob in the writing epoch."""
         blob, shards = self.blobs.get(identifier), owned(self.writing, node)
         return bool(blob and shards and shards <= blob.votes[kind].get(self.writing_epoch, frozenset()))
 
     def share(self, poster: str) -> int:
-        """How many registrations and addresses of a poster count in an epoch, with its live blobs of before."""
+        """Returns how many registrations and addresses of a poster count in an epoch, with its live older blobs."""
         return self.shares.get(poster, ROOM // (len(self.now) + 1))
 
     def planned(self, epoch: int) -> Optional[int]:
-        """The minute since 1970 in which an epoch is planned to begin, which binds nobody."""
+        """Returns the minute since 1970 in which an epoch is planned to begin, if there is a plan; it binds nobody."""
         known, since, length = self.calendar
         return since + (epoch - known) * length if length else None
 
     def fork(self) -> "Ledger":
-        """This ledger, to try on it what may come up to the next turn of the epoch."""
+        """Returns a copy of this ledger on which to try entries, up to the next epoch change."""
         made = copy.copy(self)
         made.blobs = Over(self.blobs)
         made.posted, made.shares, made.addresses = self.posted.copy(), {**self.shares}, {**self.addresses}
@@ -132,7 +135,7 @@ class Ledger:
         return made
 
     def apply(self, entry: Entry) -> Optional[str]:
-        """Enters an entry; the words of its line in a report, or None where it is void or no entry."""
+        """Applies an entry and returns its outcome, or None if it is void or malformed."""
         try:
             word = self.enter(entry)
         except Void:
@@ -141,8 +144,8 @@ class Ledger:
         return word
 
     def refused(self, entry: Entry) -> str:
-        """Enters an entry; why it changes nothing, or nothing where it counts. What changes nothing is not appended, so
-        it takes nothing of its poster's share."""
+        """Applies an entry and returns why it changes nothing, or an empty text if it counts. Recorders do not append
+        entries that change nothing, so these take nothing of their poster's share."""
         try:
             why = refusal(self.enter(entry))
         except Void as void:
@@ -152,7 +155,7 @@ class Ledger:
         return why
 
     def stands(self, entry: Entry) -> bool:
-        """Whether an entry that counted says so still: what it said is not over, and no later one says otherwise."""
+        """Whether an entry that counted is still in force: what it says has not ended, and no later one differs."""
         match [*entry.words[:2], *entry.values]:
             case _, "register", _, until:
                 return bool(until > self.epoch)
@@ -165,27 +168,27 @@ class Ledger:
         return True
 
     def enter(self, entry: Entry) -> str:
-        """Does what an entry says that counts; the words of its line in a report. Raises `Void` where it is void."""
+        """Applies an entry and returns its outcome; raises `Void` if the entry is void."""
         poster, kind = entry.words[:2] or ("", "")
         if not kind:
             raise Void(FORMLESS)
         if poster in self.expelled:
             raise Void(f"{poster} is expelled")
         if kind in (REGISTER, ADDRESS) and self.posted[poster] >= self.share(poster):
-            raise Void(f"{poster} has its share of {self.share(poster)} registrations in this epoch")
+            raise Void(f"{poster} has used its share of {self.share(poster)} registrations in this epoch")
         if kind == ADDRESS and self.addressed[poster] >= ADDRESSES:
-            raise Void(f"{poster} has told {ADDRESSES} addresses in this epoch")
+            raise Void(f"{poster} has posted {ADDRESSES} addresses in this epoch")
         if kind in ORDERS and poster != OPERATOR:
-            raise Void(f"only {OPERATOR} says that")
+            raise Void(f"only {OPERATOR} may post that")
         if not self.now and kind not in (*ORDERS, ADDRESS):
             raise Void("there is no committee yet")
         if kind in (ACK, ATTEST, "ready", "finish"):
             if entry.values[0] != self.writing_epoch:
-                raise Void(f"epoch {self.writing_epoch} is written")
+                raise Void(f"it names another epoch than {self.writing_epoch}, the writing epoch")
             if not owned(self.writing, poster):
                 raise Void(f"{poster} has no shard in the committee of epoch {self.writing_epoch}")
         if kind in ("ready", "finish") and not self.moving:
-            raise Void("no epoch is to come")
+            raise Void("no epoch change is under way")
         self.posted[poster] += kind in (REGISTER, ADDRESS)
         match kind, *entry.values:
             case "register", identifier, until:
@@ -200,7 +203,7 @@ class Ledger:
                 return self._finish()
             case "past", epoch:
                 if epoch != self.epoch or poster not in self.nodes:
-                    raise Void(f"epoch {self.epoch} is served, by others than {poster}, or it is another")
+                    raise Void(f"epoch {self.epoch} is the present one, and {poster} has no shards or named another")
                 if self.past.get(poster) == epoch:
                     return "already"
                 self.past[poster] = epoch
@@ -227,7 +230,7 @@ class Ledger:
             return "refused moving"
         if blob and until <= blob.until:
             return f"until {blob.until}"
-        # It counts on the share of who had it kept for longest.
+        # From the next epoch change on it counts towards the share of the poster that keeps it for longest.
         self.blobs[identifier] = dataclasses.replace(blob, until=until, poster=poster) if blob else Blob(until, poster)
         return f"until {until}"
 
@@ -247,7 +250,7 @@ class Ledger:
         if not faults or len(owners) != 3 * faults + 1 or self.now and faults != self.faults:
             raise Void(f"a committee has 3f+1 shards, with f = {self.faults or faults or 1}")
         if max(collections.Counter(owners).values()) > faults and self.concentrated != epoch:
-            raise Void(f"a node has more than f = {faults} shards, which {OPERATOR} has not said may be")
+            raise Void(f"a node has more than f = {faults} shards, and {OPERATOR} has not allowed that (concentrated)")
         if not self.now:
             self.faults, self.now = faults, owners
             self.blobs.needed = self.quorum

@@ -1,4 +1,4 @@
-"""A network on this machine: etcd, recorders and nodes in one folder, and their processes."""
+"""A network on this machine: the files of etcd, recorders and nodes in one folder, and their processes."""
 import asyncio
 import contextlib
 import json
@@ -18,19 +18,19 @@ from .groups import all_of
 from .ledger import OPERATOR
 from .machine import AUTHORITY, ETCD_AUTHORITY, Machine, Place
 
-LONGEST_START = 600  # seconds in which a node has its pages checked and listens
-TRIM = {"MALLOC_MMAP_THRESHOLD_": "65536", "GLIBC_TUNABLES": "glibc.malloc.hugetlb=1"}  # as walrus-net has them
+LONGEST_START = 600  # seconds until a process must listen; a node checks its pages before
+TRIM = {"MALLOC_MMAP_THRESHOLD_": "65536", "GLIBC_TUNABLES": "glibc.malloc.hugetlb=1"}  # the same as in walrus-net
 HOST = "127.0.0.1"
 
 
 def find_program() -> str:
-    """The program that the variable WALRUS names, or else the one that was built in this checkout, or is installed."""
+    """Returns the program that the variable WALRUS names, or the one built in this checkout, or the installed one."""
     built = TOP / "crates" / "walrus" / "out" / "walrus"
     return os.environ.get("WALRUS") or (not built.exists() and shutil.which("walrus")) or str(built)
 
 
 def free_port() -> int:
-    """A port that nobody has, below those that the system takes for who connects."""
+    """Returns a free port below those that the system gives to outgoing connections."""
     while True:
         with socket.socket() as found, contextlib.suppress(OSError):
             found.bind(("127.0.0.1", 10_000 + secrets.randbelow(20_000)))
@@ -54,14 +54,14 @@ class Local:
         self.sides, self.faults = ((), ()), 1  # type: tuple[tuple[str, ...], tuple[str, ...]], int
 
     async def spawn(self, name: str, *words: str, **options: object) -> asyncio.subprocess.Process:
-        """Starts a process that is ended with the network; what it says goes to NAME.log."""
+        """Starts a process that ends with the network; its output goes to NAME.log."""
         with open(self.folder / f"{name}.log", "ab") as log:
             quiet = {"stdin": subprocess.DEVNULL, "stdout": log, "stderr": log, "cwd": self.folder, **options}
             self.processes[name] = await asyncio.create_subprocess_exec(*words, **quiet)  # type: ignore[arg-type]
         return self.processes[name]
 
     async def end(self, name: str, kill: bool = False) -> int:
-        """Ends a process by a signal, and waits for it."""
+        """Ends a process by a signal, waits for it, and returns its status; after 20 seconds it is killed."""
         process = self.processes.pop(name)
         if process.returncode is None:
             process.kill() if kill else process.terminate()
@@ -72,12 +72,12 @@ class Local:
         return await process.wait()
 
     async def close(self) -> None:
-        """Ends all that was started, the ledger last."""
+        """Ends all processes: nodes first, then recorders, then etcd."""
         for name in sorted(self.processes, key=lambda name: (name in self.members, name in self.recorders)):
             await self.end(name)
 
     async def found(self) -> None:
-        """Makes the authorities, the users, and the settings of etcd and recorders, where there are none."""
+        """Makes the authorities, the users, and the settings of etcd and recorders, unless the folder has a network."""
         if (self.folder / PLAN).exists():
             return
         (self.folder / "users").mkdir(parents=True, mode=0o700, exist_ok=True)
@@ -96,22 +96,22 @@ class Local:
             machine.recorder(place, urls[self.members[number % len(self.members)]][0], place.name)
 
     def machine(self) -> Machine:
-        """This machine, whose files all lie in the folder."""
+        """Returns this machine, whose files are all in the folder."""
         return Machine(self.folder, self.folder, "", "", self.told() | {"program": self.program})
 
     def told(self) -> dict[str, Any]:
-        """What `network.json` says: the program, the recorders, and two URLs of each member of etcd."""
+        """Returns `network.json`: the program, the recorders, and two URLs for each member of etcd."""
         told: dict[str, Any] = json.loads((self.folder / "network.json").read_text())
         return told
 
     async def start_etcd(self, name: str = "etcd") -> None:
-        """Starts a member of etcd, for its clients and its peers."""
+        """Starts a member of etcd with the variables in its file NAME.env."""
         lines = (self.folder / f"{name}.env").read_text().splitlines()
         environment = {**os.environ, **dict(line.split("=", 1) for line in lines)}
         await self.spawn(name, "etcd", "--key-file=etcd.key", "--peer-key-file=etcd.key", env=environment)
 
     async def start_ledger(self) -> None:
-        """Starts etcd and recorders, in a fresh folder of a ledger that is born then."""
+        """Starts etcd and the recorders; in a fresh folder their files and the ledger are made first."""
         await self.found()
         self.recorders = sorted(it.stem for it in self.folder.glob("recorder-*.toml"))
         self.members = list(self.told()["etcd"])
@@ -119,7 +119,7 @@ class Local:
         await all_of(map(self.start_recorder, self.recorders))
 
     async def add_node(self, name: str) -> None:
-        """Makes a node's certificate and settings, where there are none."""
+        """Makes a node's certificate and settings, unless it has settings."""
         if not (self.folder / f"{name}.toml").exists():
             self.machine().node(Place(name, HOST, free_port()), **self.options)
 
@@ -130,7 +130,8 @@ class Local:
         await self.start(name, [*words] or [sys.executable, "-m", "walrus.network.node"], environment)
 
     async def start(self, name: str, words: Sequence[str], environment: Mapping[str, str] = {}) -> None:
-        """Starts a process over its settings; returns once it listens, and raises with its words where it does not."""
+        """Starts a process with its settings; returns once it listens, and raises `RuntimeError` with its last output
+        if it ends or does not listen in time."""
         log = self.folder / f"{name}.log"
         before = log.stat().st_size if log.exists() else 0
         path = os.pathsep.join([str(TOP / "clients" / "python"), os.environ.get("PYTHONPATH", "")])
@@ -151,7 +152,8 @@ class Local:
         return Network(self.folder, user, seconds)
 
     async def up(self, names: Sequence[str], faults: int = 1, owners: Optional[Sequence[str]] = None) -> None:
-        """Starts the ledger and nodes, those of its committees too; of a fresh network the nodes own its shards."""
+        """Starts the ledger, these nodes, and those of its committees. In a fresh network `owners`, or else these
+        nodes, get the shards."""
         if not {*self.members} & {*self.processes}:
             await self.start_ledger()
         for name in names:
@@ -170,11 +172,11 @@ class Local:
         await all_of(map(self.start_node, known))
 
     def hear(self, network: Network) -> None:
-        """Notes which nodes have the shards of the committees."""
+        """Notes which nodes own the shards of both committees, for `up` and `lacks`."""
         self.sides, self.faults = (network.ledger.now, network.ledger.next), network.ledger.faults
 
     async def lacks(self) -> str:
-        """What has ended of that without which nothing is stored any more."""
+        """Returns what has ended without which nothing can be stored any more; an empty text if enough still runs."""
         gone = {name for name, process in self.processes.items() if process.returncode is not None}
         if len(gone & {*self.members}) > (len(self.members) - 1) // 2:
             return "etcd is gone"
@@ -185,14 +187,14 @@ class Local:
                 async with self.network(OPERATOR) as operator:
                     self.hear(operator)
         shards = max(sum(name in gone for name in side) for side in self.sides)
-        return f"the nodes of {shards} shards are gone, of {self.faults} that may be" if shards > self.faults else ""
+        return f"nodes with {shards} shards are gone, and only {self.faults} may be" if shards > self.faults else ""
 
     async def watch(self) -> str:
-        """Says when a process ends; returns once something is gone that all needs, and says what."""
+        """Prints when a process ends; once too much has ended for anything to be stored, returns what."""
         waiting = {asyncio.create_task(process.wait()): name for name, process in self.processes.items()}
         while not (lack := await self.lacks()):
             done, _ = await asyncio.wait(waiting, return_when=asyncio.FIRST_COMPLETED)
             for name, status in ((waiting.pop(task), task.result()) for task in done):
                 last = (self.folder / f"{name}.log").read_text(errors="replace").strip().rpartition("\n")[2]
-                print(f"{name} has ended with status {status}: {last[-300:] or 'it said nothing'}", file=sys.stderr)
+                print(f"{name} has ended with status {status}: {last[-300:] or 'it printed nothing'}", file=sys.stderr)
         return lack

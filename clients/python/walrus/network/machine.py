@@ -1,4 +1,4 @@
-"""What one machine of a network has: the settings and certificates of what runs there."""
+"""The files of one machine of a network: the settings and certificates of the services that run there."""
 import dataclasses
 import ipaddress
 import pathlib
@@ -13,7 +13,8 @@ from .follower import NAME as RECORDER
 from .settings import GatewaySettings, RecorderSettings, Settings
 
 AUTHORITY, ETCD_AUTHORITY = "authority", "etcd-authority"
-# Names that no node may have, in whatever case, as TLS takes one for the other.
+# Names that no node, gateway or user may have, in upper or lower case, as TLS ignores case; but a user may be the
+# operator.
 KEPT = {OPERATOR, RECORDER, AUTHORITY, ETCD_AUTHORITY, "etcd", "units"}
 PLACE = re.compile(r"(?:([^=]+)=)?(\[[0-9A-Fa-f:.]+\]|[^\[\]:*=]+)(?::(\d{1,5}))?(?:\*(\d{1,4}))?")
 ETCD = """ETCD_NAME={name}
@@ -45,11 +46,11 @@ ETCDCTL_KEY={etc}/etcd.key
 
 
 class Unfounded(ValueError):
-    """Why the files of a network are not made, in a sentence."""
+    """The files of a network cannot be made; the message is a sentence that says why."""
 
 
 def is_known_to_tls(name: str) -> bool:
-    """Whether a certificate can have a name, and Python asks servers for it: between dots it has 1 to 63 letters."""
+    """Whether a certificate can have a name, and Python's TLS can check it: each label has 1 to 63 characters."""
     try:
         certificates.name_of(name)
         return bool(name.encode("idna"))
@@ -58,13 +59,13 @@ def is_known_to_tls(name: str) -> bool:
 
 
 def can_be_named(name: str) -> bool:
-    """Whether something can have a name in the ledger and in its certificate."""
+    """Whether a name is possible both in the ledger and in a certificate."""
     return bool(NAME.fullmatch(name)) and is_known_to_tls(name)
 
 
 @dataclasses.dataclass(frozen=True)
 class Place:
-    """Where something runs under a name, and how many shards a node has."""
+    """The name of a service and the address where it runs; of a node also its number of shards."""
 
     name: str
     host: str
@@ -73,7 +74,7 @@ class Place:
 
     @classmethod
     def read(cls, text: str, name: str = "", port: int = 0) -> "Place":
-        """A place from words like NAME=HOST:PORT*SHARDS."""
+        """Parses NAME=HOST:PORT*SHARDS, where `name` and `port` replace parts that are left out."""
         found = PLACE.fullmatch(text)
         if not found or not (found[1] or name) or not int(found[3] or port):
             raise Unfounded(f"{text} is not NAME=HOST:PORT" + ("" if not name else " or HOST"))
@@ -84,7 +85,7 @@ class Place:
             )
         named = can_be_named(place.name) and place.name.lower() not in KEPT
         if not named or not 0 < place.port < 65_536 or not place.shards:
-            raise Unfounded(f"{text} names nothing that can be: {place.name}, port {place.port}, {place.shards} shards")
+            raise Unfounded(f"{text} is not possible: name {place.name}, port {place.port}, {place.shards} shards")
         if not is_known_to_tls(place.host):
             raise Unfounded(f"{text}: no certificate can have the name of the machine {place.host}")
         return place
@@ -95,7 +96,7 @@ class Place:
 
     @property
     def listens(self) -> str:
-        """Where it listens: at its address, or at all of the machine's (nothing) where a name is all that is known."""
+        """Where it listens: at its address, or at all of its machine's (an empty text) if only a name is known."""
         try:
             return str(ipaddress.ip_address(self.host))
         except ValueError:
@@ -103,7 +104,8 @@ class Place:
 
 
 class Machine:
-    """What one machine has, written to `into`; it will lie in `etc` there, and what runs keeps its own in `state`."""
+    """The files of one machine, which are written to `into`. On the machine they will be in the folder `etc`, and its
+    services keep their data in `state`; both are empty if the files stay in `into`."""
 
     def __init__(self, folder: pathlib.Path, into: pathlib.Path, etc: str, state: str, plan: Mapping[str, Any]):
         self.folder, self.into, self.plan = folder, into, plan
@@ -113,7 +115,7 @@ class Machine:
             shutil.copyfile(path, into / path.name)
 
     def sign(self, file: str, name: str, *known: str, by: str = AUTHORITY) -> dict[str, str]:
-        """Makes a certificate; the settings that name it."""
+        """Makes a certificate and its key; returns the settings that name them."""
         certificates.make(self.into / file, self.folder / by, name, known)
         return {"certificate": self.at(f"{file}.crt"), "key": self.at(f"{file}.key")}
 
@@ -121,17 +123,18 @@ class Machine:
         return str(pathlib.Path(self.etc, name))
 
     def kept(self, name: str, file: str) -> str:
-        """Where a service keeps a file: in a folder of its own where there are several machines."""
+        """Returns the path of a service's file: in a folder of its own if there are several machines."""
         return str(pathlib.Path(self.state, name, file)) if self.state else file
 
     def etcd(self, name: str, place: Place, urls: Mapping[str, Sequence[str]], beat: int = 250) -> None:
-        """A member of etcd; `urls` are two of each member, for its clients and for its peers."""
+        """Writes the settings of a member of etcd. `urls` has two for each member: for clients, and for its peers.
+        `beat` is etcd's heartbeat interval in milliseconds."""
         if self.into != self.folder:
             shutil.copyfile(self.folder / f"{ETCD_AUTHORITY}.crt", self.into / f"{ETCD_AUTHORITY}.crt")
         self.sign("etcd", name, "localhost", "127.0.0.1", place.host, by=ETCD_AUTHORITY)
         cluster = ",".join(f"{member}={peer}" for member, (_, peer) in urls.items())
         client, peer = urls[name]
-        every = "0.0.0.0"  # for etcd all addresses of the machine, those of IPv6 too
+        every = "0.0.0.0"  # which etcd takes for all addresses of the machine, those of IPv6 too
         listens = dataclasses.replace(place, host=place.listens or every, port=int(peer.rpartition(":")[2]))
         words = {
             "name": name,
@@ -163,7 +166,7 @@ class Machine:
         write(Settings, self.into / f"{place.name}.toml", told | options)
 
     def gateway(self, place: Place) -> None:
-        """A gateway on loopback, as whoever reaches it may store."""
+        """Writes the settings of a gateway; it listens on loopback only, as anyone who reaches it may store."""
         told: dict[str, Any] = {"name": place.name, "program": self.plan["program"]}
         told |= {"recorders": self.plan["recorders"], "authority": self.at(f"{AUTHORITY}.crt")}
         told |= {**self.sign(place.name, place.name, place.name, place.host), "host": "127.0.0.1", "port": place.port}

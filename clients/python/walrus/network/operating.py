@@ -1,4 +1,5 @@
-"""What an operator does: begins and plans epochs, gives shares of the ledger, expels, has nodes scrub their disks."""
+"""What operators do over the ledger: begin and plan epochs, set shares, expel names, and have nodes scrub their
+disks."""
 import argparse
 import collections
 import datetime
@@ -16,12 +17,12 @@ from .groups import all_of
 from .peers import SCRUB, Seat
 from .transfers import Failure
 
-NAMED = 20  # blobs that are named where many end
+NAMED = 20  # blobs ending with an epoch that are printed at most, before the number of the others
 SNAPSHOT = "; take a snapshot of the ledger before you remove nodes without shards (network/OPERATING.md)"
 
 
 def shards_of(words: list[str]) -> list[str]:
-    """The nodes of the shards that words name: NODE, or NODE*SHARDS."""
+    """Returns the node of each shard from words NODE or NODE*SHARDS."""
     found = [re.fullmatch(r"([^*]+)(?:\*([1-9]\d{0,3}))?", it) for it in words]
     if not all(it and NAME.fullmatch(it[1]) for it in found):
         raise Failure("name nodes as NODE, or NODE*SHARDS", 2)
@@ -29,12 +30,12 @@ def shards_of(words: list[str]) -> list[str]:
 
 
 def must_be_equal(network: Network, owners: list[str], faults: int) -> None:
-    """Raises where a machine would have more than f shards; on loopback each node counts as one."""
+    """Raises `Failure` if a machine would have more than f shards; on loopback each node counts as a machine."""
     hosts = {name: network.ledger.addresses[name][0] for name in owners}
     counts = collections.Counter(name if is_loopback(hosts[name]) else hosts[name] for name in owners)
     host, count = counts.most_common(1)[0]
     if count > faults:
-        raise Failure(f"{host} has {count} shards, and {faults} may be lost: --concentrated begins all the same", 1)
+        raise Failure(f"{host} has {count} shards, and {faults} may be lost: --concentrated begins anyway", 1)
 
 
 def is_loopback(host: str) -> bool:
@@ -42,17 +43,17 @@ def is_loopback(host: str) -> bool:
 
 
 async def must_answer(network: Network, owners: list[str], faults: int, force: bool) -> None:
-    """Raises where a name is expelled, or not known to the ledger, or a node does not answer with a certificate of its
-    name."""
+    """Raises `Failure` if a name is expelled or has posted no address to the ledger, or if a node does not answer with
+    a certificate of its name. With `force`, nodes of up to f shards need not answer."""
     names = list(dict.fromkeys(owners))
     expelled = [name for name in names if name in network.ledger.expelled]
     if expelled:
-        text = f"{' and '.join(expelled)} would hold shards, but nothing counts that an expelled name posts"
+        text = f"{' and '.join(expelled)} would hold shards, but entries of an expelled name do not count"
         raise Failure(f"{text}: give them to another node; nothing was begun", 1)
     unknown = [name for name in names if name not in network.ledger.addresses]
     if unknown:
         text = f"{' and '.join(unknown)} told the ledger no address"
-        raise Failure(f"{text}: start the node, or mend the name; nothing was begun", 1)
+        raise Failure(f"{text}: start the node, or correct the name; nothing was begun", 1)
 
     async def fault(name: str) -> str:
         async with Seat(network.peers, name, 0, faults) as seat:
@@ -72,17 +73,17 @@ async def must_answer(network: Network, owners: list[str], faults: int, force: b
 
 
 def must_agree(text: str, words: argparse.Namespace) -> None:
-    """Asks whoever is at the terminal."""
+    """Asks at the terminal, unless `--yes` was given; raises `Failure` if the answer is not yes."""
     if words.yes:
         return
     if not sys.stdin.isatty():
-        raise Failure("nothing was begun, as nobody can be asked here: --yes begins without", 1)
+        raise Failure("nothing was begun, as there is no terminal to ask at: --yes begins without asking", 1)
     if input(f"{text} [y/N] ").strip().lower() not in ("y", "yes"):
         raise Failure("nothing was begun", 1)
 
 
 async def hand_over(words: argparse.Namespace) -> int:
-    """Has the next committee take over, and says which blobs end with the epoch; returns once it has."""
+    """Prints which blobs end with the epoch, and hands over to the next committee; returns once its epoch has begun."""
     async with Network(words.folder, OPERATOR) as network:
         ledger, epoch = network.ledger, network.ledger.epoch + 1
         owners, needed = shards_of(words.owners or list(ledger.now)), 3 * ledger.faults + 1
@@ -99,10 +100,10 @@ async def hand_over(words: argparse.Namespace) -> int:
             tell_of(network, owners, ended)
         must_agree(f"begin epoch {epoch}?", words)
         begun = time.monotonic()
-        await network.begin(ledger.faults, owners, epoch)  # and no later one, if another command has begun it
+        await network.begin(ledger.faults, owners, epoch)  # not a later one, if another command began this
         if not await network.until(lambda it: it.epoch >= epoch, words.seconds):
             cause = network.away_since(begun) or "look at its nodes' logs"
-            raise Failure(f"epoch {epoch} is not reached after {words.seconds:g} s: {cause}", 1)
+            raise Failure(f"epoch {epoch} has not begun after {words.seconds:g} s: {cause}", 1)
         told = {"epoch": epoch, "nodes": owners, "ended": ended}
         text = f"epoch {epoch} has begun" + (SNAPSHOT if leave else "")
         print(json.dumps(told) if words.json else text)
@@ -110,7 +111,7 @@ async def hand_over(words: argparse.Namespace) -> int:
 
 
 def tell_of(network: Network, owners: list[str], ended: list[str]) -> None:
-    """Says what a handover changes."""
+    """Prints what a handover changes."""
     ledger, old, new = network.ledger, {*network.ledger.now}, {*owners}
     for text, names in (("takes shards over", new - old), ("has no shards any more", old - new)):
         for name in sorted(names):
@@ -123,7 +124,7 @@ def tell_of(network: Network, owners: list[str], ended: list[str]) -> None:
 
 
 async def begin(words: argparse.Namespace) -> int:
-    """Begins the first epoch of a network with the nodes with which it was founded."""
+    """Begins the first epoch of a network, with the nodes in its plan."""
     plan = json.loads((words.folder / "network.json").read_text())
     if "nodes" not in plan:
         raise Failure(f"{words.folder} does not say with which nodes the network was founded", 2)
@@ -131,7 +132,7 @@ async def begin(words: argparse.Namespace) -> int:
     async with Network(words.folder, OPERATOR) as network:
         if network.ledger.now:
             raise Failure(f"epoch {network.ledger.epoch} has begun before: walrus-net handover begins the next one", 1)
-        await network.until(lambda it: {*owners} <= {*it.addresses}, 20)  # who has just started tells it soon
+        await network.until(lambda it: {*owners} <= {*it.addresses}, 20)  # which a node posts soon after its start
         await must_answer(network, owners, plan["faults"], False)
         await network.begin(plan["faults"], owners, 0)
         if not await network.until(lambda it: it.now):
@@ -141,7 +142,7 @@ async def begin(words: argparse.Namespace) -> int:
 
 
 async def post(words: argparse.Namespace) -> int:
-    """Gives a name another share, or expels it; not the operator, as then no entry of an operator would count again."""
+    """Sets the share of a name, or expels it; but not the operator, as no order would count any more."""
     if words.command == "expel" and words.name == OPERATOR:
         text = "no epoch could begin any more, and that cannot be undone"
         raise Failure(f"{OPERATOR} cannot be expelled: {text} (network/OPERATING.md)", 2)
@@ -154,7 +155,7 @@ async def post(words: argparse.Namespace) -> int:
 
 
 async def plan(words: argparse.Namespace) -> int:
-    """Posts how long an epoch is planned to be, from the present one on."""
+    """Posts the planned length of epochs, from the present one on, or that there is no plan."""
     minutes = 0 if words.length == "off" else seconds_of(words.length) // 60
     since = datetime.datetime.fromisoformat(words.since) if words.since else datetime.datetime.now()
     async with Network(words.folder, OPERATOR) as network:
@@ -168,7 +169,7 @@ async def plan(words: argparse.Namespace) -> int:
 
 
 async def scrub(words: argparse.Namespace) -> int:
-    """Has a node begin a scrub, where none is under way."""
+    """Has a node begin a scrub, unless one is under way."""
     async with Network(words.folder, OPERATOR) as network:
         told = await network.peers.told(words.name, SCRUB)
     held = told.get("held", {})

@@ -1,4 +1,4 @@
-"""The commands of walrus-net that operators use: their words, and what needs no ledger."""
+"""The commands of walrus-net for operators: their arguments, and the commands that need no ledger."""
 import argparse
 import dataclasses
 from typing import Any, Awaitable, Callable
@@ -17,54 +17,54 @@ from .settings import GatewaySettings, RecorderSettings, Settings
 from .transfers import Failure
 
 Add = Callable[..., argparse.ArgumentParser]
-LEAKED = "add --user operator makes another one; its certificate counts until it ends, and if its key may be known, "
-LEAKED += "all need certificates of other authorities (network/OPERATING.md, The ledger)"
+LEAKED = "add --user operator makes another one; the old certificate is valid until it expires, and "
+LEAKED += "if its key may be known, all need certificates of new authorities (network/OPERATING.md, The ledger)"
 
 
 def add_words(add: Add) -> None:
-    """Has a parser take the words of operators; `add` adds a command with its places and options."""
-    plain = {"json": (False, "say what came of it as JSON")}
+    """Adds the commands of operators to a parser; `add` adds one command with its arguments and options."""
+    plain = {"json": (False, "print the result as JSON")}
     heavy = {"concentrated": (False, "let a machine have more than f shards")}
-    told: dict[str, Any] = {"epochs": (Options.epochs, "for which a file is kept at most")}
-    told |= {"memory": (Options.memory, "bytes that the gateway may take, whatever it is asked")}
-    told |= {"stale": (Options.stale, "seconds for which the ledger may be away before that is told")} | exposure.WORDS
+    told: dict[str, Any] = {"epochs": (Options.epochs, "the most epochs for which a file is kept")}
+    told |= {"memory": (Options.memory, "bytes of memory that the gateway may use, whatever it is asked")}
+    told |= {"stale": (Options.stale, "seconds without the ledger until the gateway answers 503")} | exposure.WORDS
     port = {"host": ("127.0.0.1", "the gateway's address"), "port": (GATEWAY_PORT, "the gateway's port")}
-    hands = {"seconds": (600.0, "how long it may take"), "yes": (False, "ask nothing")}
-    hands |= {"force": (False, "begin though nodes of up to f shards do not answer")}
-    add("handover", "begin an epoch; NODE or NODE*SHARDS, or the same", "folder", "owners*", **hands, **heavy, **plain)
+    hands = {"seconds": (600.0, "how long to wait until the epoch has begun"), "yes": (False, "begin without asking")}
+    hands |= {"force": (False, "begin even if nodes of up to f shards do not answer")}
+    add("handover", "begin an epoch of NODE or NODE*SHARDS, or as now", "folder", "owners*", **hands, **heavy, **plain)
     add("begin", "begin the first epoch of a network that was founded", "folder", **plain)
     since = {"since": ("", "when this epoch began, such as 2026-11-29T12:00; now, if it is left out")}
     add("calendar", "plan how long an epoch is, such as 14d, or off", "folder", "length", **since, **plain)
-    sub = add("share", "let a name have so many live blobs", "folder", "name", **plain)
-    sub.add_argument("--blobs", type=int, required=True, help="registrations of an epoch, with what lives from before")
-    add("expel", "make void what a name posts from now on, for ever", "folder", "name", **plain)
-    add("scrub", "have a node read and judge all that it holds", "folder", "name", **plain)
+    sub = add("share", "set how many live blobs a name may have", "folder", "name", **plain)
+    sub.add_argument("--blobs", type=int, required=True, help="registrations in an epoch, with live blobs from before")
+    add("expel", "make everything void that a name posts from now on, for ever", "folder", "name", **plain)
+    add("scrub", "have a node read and verify all that it holds", "folder", "name", **plain)
 
     sub = add("found", "make the files of all machines of a network", "folder", "nodes*", **heavy)
-    sub.add_argument("--faults", type=int, required=True, metavar="F", help="of 3F+1 shards, which may be lost or lie")
+    sub.add_argument("--faults", type=int, required=True, metavar="F", help="shards of 3F+1 that may be lost or lie")
     sub.add_argument("--ledger", nargs="+", required=True, metavar="HOST", help="the machines of the ledger")
-    sub.add_argument("--prefix", default="", help="lies before /etc/walrus and /var/lib/walrus; no units then")
+    sub.add_argument("--prefix", default="", help="goes before /etc/walrus and /var/lib/walrus; no units are made then")
     sub.add_argument("--program", default="/usr/bin/walrus", help="where the program is on the machines")
-    sub.add_argument("--days", type=float, default=AUTHORITY_DAYS, help="for which the authorities count")
+    sub.add_argument("--days", type=float, default=AUTHORITY_DAYS, help="for which the authorities are valid")
     for sub in (sub, add("add", "make the files of further nodes, gateways and users", "folder", "nodes*")):
         sub.add_argument("--gateway", dest="gateways", action="append", default=[], metavar="NAME=HOST[:PORT]")
         sub.add_argument("--user", dest="users", action="append", default=[], metavar="NAME", help="who may post")
-    ending = {"within": (30.0, "days in which those end that are renewed"), "days": (DAYS, "for which they count")}
-    add("renew", "make certificates anew: those named, or those that end soon", "folder", "names*", **ending)
-    add("remove", "forget nodes, gateways and users, and their keys", "folder", "names+")
+    ending = {"within": (30.0, "days within which they expire"), "days": (DAYS, "for which new ones are valid")}
+    add("renew", "renew certificates: those named, or those that expire soon", "folder", "names*", **ending)
+    add("remove", "remove nodes, gateways and users, and their keys", "folder", "names+")
 
     more: dict[str, Any]
-    quiet = {"seconds": (60.0, "how long to wait for etcd, and for a node that tells nothing")}
-    add("restore", "make a ledger whole that was restored from a snapshot", "settings", **quiet)
-    add("check", "say what is wrong with files of settings", "settings+")
-    more = {"metrics": ("", "PORT of this machine alone, or HOST:PORT, where Prometheus reads its numbers")}
+    quiet = {"seconds": (60.0, "how long to wait for etcd, and while no node reports more")}
+    add("restore", "complete a ledger that was restored from a snapshot", "settings", **quiet)
+    add("check", "report what is wrong with files of settings", "settings+")
+    more = {"metrics": ("", "where Prometheus reads its metrics: PORT, on this machine only, or HOST:PORT")}
     add("node", "run a node", "settings", **more)
     add("recorder", "run a recorder", "settings")
     add("gateway", "run a gateway over its settings, or over a network's folder", "place", **port, **told)
     more = {"faults": (1, "of a fresh network, which has 3 FAULTS + 1 nodes")}
-    more |= {"nodes": ("", "NODE or NODE*SHARDS, with commas between, beside those that are there")}
-    more |= {"add": ("", "only makes the settings of further nodes")}
-    more |= {"detach": (False, "go on in the background once all is ready")}
+    more |= {"nodes": ("", "NODE or NODE*SHARDS, separated by commas, beside those that are there")}
+    more |= {"add": ("", "only make the settings of these nodes, separated by commas")}
+    more |= {"detach": (False, "continue in the background once all is ready")}
     add("up", "run etcd, a recorder, nodes and a gateway on this machine", "folder?", **more, **port, **told)
 
 
@@ -76,11 +76,11 @@ def options_of(words: argparse.Namespace) -> Options:
 
 
 async def run_gateway(words: argparse.Namespace) -> int:
-    """Runs a gateway over a file of its settings, or over the folder of a network on this machine."""
+    """Runs a gateway with a file of its settings, or for the network in a folder on this machine."""
     if words.place.is_dir():
         return await gateway.serve(words.place, words.host, words.port, options_of(words), gateway.ending())
     if (words.host, words.port, options_of(words)) != ("127.0.0.1", GATEWAY_PORT, Options()):
-        raise Failure(f"{words.place} has the gateway's settings: say them there, and not as options", 2)
+        raise Failure(f"{words.place} has the gateway's settings: set them there, and not as options", 2)
     it = GatewaySettings.read(words.place)
     access = Access(it.name, it.program, it.recorders, it.authority, it.certificate, it.key, it.state)
     return await gateway.serve(access, it.host, it.port, it, gateway.ending())
@@ -105,7 +105,7 @@ async def run_up(words: argparse.Namespace) -> int:
 
 
 async def found_all(words: argparse.Namespace) -> int:
-    """Makes the files of all machines, and says what is to be done with them."""
+    """Makes the files of all machines, and prints for which machine each folder is."""
     named = [*words.ledger, *words.nodes]
     ledger, nodes = [[it for it in named if ("=" in it) == is_node] for is_node in (False, True)]
     with readable():
@@ -131,8 +131,8 @@ async def renew(words: argparse.Namespace) -> int:
         changed = Founding(words.folder).renew(words.names, words.within, words.days)
     for path in changed:
         print(f"{path} is new")
-    text = "give each machine its folder, and restart what runs there, one machine after the other"
-    print(text if changed else "no certificate ends so soon")
+    text = "copy its folder to each machine, and restart what runs there, one machine after the other"
+    print(text if changed else "no certificate expires so soon")
     return 0
 
 
@@ -140,14 +140,14 @@ async def remove(words: argparse.Namespace) -> int:
     made = Founding(words.folder)
     for name in words.names:
         where = made.remove(name)
-        made.save()  # before the next name, which may be none
+        made.save()  # before the next name, which may not exist
         known = LEAKED if name == OPERATOR else "stop it there; if its key may be known, expel it"
-        print(f"{name} is forgotten, which was at {where}: {known}")
+        print(f"{name} is removed, which was at {where}: {known}")
     return 0
 
 
 async def check_all(words: argparse.Namespace) -> int:
-    """Says what is wrong with files of settings; the status is 0 where nothing is."""
+    """Prints what is wrong with files of settings; returns 0 if nothing is, and otherwise 1."""
     bad = 0
     for path in words.settings:
         role, faults, soon = check(path)

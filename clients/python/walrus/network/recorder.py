@@ -1,7 +1,7 @@
-"""A recorder: checks what is posted by the rules of the ledger, appends it to etcd, and tells it in its order.
+"""A recorder: checks posted entries by the rules of the ledger, appends them to etcd, and serves them in order.
 
-What it knows it has from etcd, and every append compares the head there. So any number of recorders may stand over one
-etcd: one of them wins a place, and the others go on behind it."""
+All that it knows it has read from etcd, and each append is a transaction that compares the head there. So any number of
+recorders may share one etcd: one of them wins a place, and the others read its batch and continue after it."""
 import asyncio
 import collections
 import contextlib
@@ -21,39 +21,39 @@ from .state import State
 from .waiting import Waiting
 
 MOST_BATCH, HELD, RECENT = 262_144, 1_048_576, 4_194_304  # bytes of a batch, kept for each follower, and for all
-TOGETHER = 1_000  # entries of a batch at most, as nobody else is heard while they are judged or entered
+TOGETHER = 1_000  # entries of a batch at most, as the event loop does nothing else while they are judged or entered
 BEAT, POLL, FRESH = 1.0, 1.0, 5.0  # seconds
-GRACE = 60.0  # seconds in which a checkpoint is left to the recorder that has appended the turn of the epoch
-Answer = Union[int, Refused]  # the place of an entry that was posted, or why it is not taken
+GRACE = 60.0  # seconds in which a checkpoint is left to the recorder that appended the epoch change
+Answer = Union[int, Refused]  # the place of a posted entry, or why it was refused
 Taken = asyncio.Future[Answer]
 
 
 class Broken(Exception):
-    """The ledger in etcd is another one than this recorder has read, which it must not go on with unseen."""
+    """The ledger in etcd is not the one that this recorder has read: it must stop until an operator has looked."""
 
 
 class Recorder:
-    """The ledger as etcd has it, with the places of what counts as long as it is there, and what waits for a place."""
+    """The ledger as etcd has it, the places of entries that count while etcd has them, and entries that wait."""
 
     def __init__(self, etcd: Etcd, state: Optional[State] = None) -> None:
         self.etcd, self.state = etcd, state or State()
         self.ledger, self.state.apply = self.state.ledger, self.apply
         self.waiting = dict[Taken, str]()
         self.recent, self.size = collections.deque[Batch](), 0  # batches for followers, and their bytes
-        self.seen, self.fault = float("-inf"), ""  # when etcd was asked last; what it did not do
-        self.appended, self.turned = 0.0, 0.0  # when something was; from when on a checkpoint is this recorder's work
-        self.bell, self.news, self.own = asyncio.Event(), Waiting(), 0  # the place up to which it appends just now
-        self.turn = asyncio.Lock()  # of followers who need what is in etcd alone
-        self.turns = collections.defaultdict[str, asyncio.Lock](asyncio.Lock)  # in which each name waits in one place
+        self.seen, self.fault = float("-inf"), ""  # when all was read that etcd had; the last failure, if it lasts
+        self.appended, self.turned = 0.0, 0.0  # when entries last were; from when on this recorder writes a checkpoint
+        self.bell, self.news, self.own = asyncio.Event(), Waiting(), 0  # `own`: the place up to which it appends now
+        self.turn = asyncio.Lock()  # of followers that need batches that only etcd has
+        self.turns = collections.defaultdict[str, asyncio.Lock](asyncio.Lock)  # so that each name waits there only once
 
     @property
     def chain(self) -> Chain:
-        """How far the ledger was read."""
+        """How far this recorder has read the ledger."""
         return self.state.chain or Chain(0, b"")
 
     @property
     def fresh(self) -> bool:
-        """Whether this was all of the ledger a moment ago; `slow` says why it was not."""
+        """Whether this recorder had all of the ledger at some moment in the last `FRESH` seconds; `slow` is why not."""
         return time.monotonic() < self.seen + FRESH
 
     @property
@@ -61,7 +61,7 @@ class Recorder:
         return self.fault or f"etcd at {self.etcd.url} is slow"
 
     async def run(self) -> None:
-        """Appends what waits, one transaction behind the other, and reads what other recorders append."""
+        """Appends waiting entries, one transaction after another, and reads what other recorders append."""
         pause, watching = 0.1, asyncio.create_task(self.etcd.watch(self.hear))
         try:
             while True:
@@ -85,12 +85,12 @@ class Recorder:
             watching.cancel()
 
     def hear(self, head: str) -> None:
-        """Has what another recorder has appended read soon."""
+        """Wakes `run` if this head is beyond what this recorder has read or is appending: another one moved it."""
         if json.loads(head)["place"] > max(self.own, self.chain.place):
             self.bell.set()
 
     def post(self, texts: list[str]) -> asyncio.Future[list[Answer]]:
-        """The places of entries, once they are appended; of one that is not taken, why."""
+        """Queues entries, and returns a future of their places once they are appended; of a refused one, the reason."""
         taken = dict[Taken, str]((asyncio.Future(), text) for text in texts)
         for it, text in taken.items():
             if not Entry(0, text).words:
@@ -101,31 +101,31 @@ class Recorder:
         return asyncio.gather(*taken)
 
     def head(self, chain: Chain) -> str:
-        """What stands at the head in etcd where the ledger ends so."""
+        """Returns the value that the head in etcd has if the ledger ends with this chain."""
         return json.dumps({"ledger": self.state.identity, "place": chain.place, "digest": chain.digest.hex()})
 
     async def catch_up(self) -> None:
-        """Reads what others have appended, until there is nothing new."""
+        """Reads what other recorders have appended, until there is nothing new."""
         while not await self.step():
             pass
 
     async def append(self) -> None:
-        """Appends what waits and counts as one batch, and answers it, unless another recorder was first."""
+        """Appends the waiting entries that count as one batch and answers them, unless another recorder was first."""
         answers, batch = self.judge()
         try:
             stood = await self.step(batch)
         except Failed:
             if batch:
-                await self.step()  # etcd may be full, and tells still what it has
+                await self.step()  # etcd may be full, and still answers reads
             raise
-        for taken, answer in answers.items() if stood else ():  # what was refused was else judged by what is no more
+        for taken, answer in answers.items() if stood else ():  # otherwise they were judged by an outdated ledger
             if not taken.done():
                 taken.set_result(answer)
         if not stood or not all(it.done() for it in self.waiting):
             self.bell.set()
 
     async def step(self, batch: Optional[Batch] = None) -> bool:
-        """Appends a batch where the ledger ends here, or reads more of what stands there; whether it ended here."""
+        """Appends a batch if the ledger in etcd ends here, or else reads on; returns whether it ended here."""
         begun, known = time.monotonic(), self.head(self.chain)
         wanted, self.own = (self.head(batch.after), batch.last) if batch else (known, 0)
         head, others = await self.etcd.append(known, wanted, batch) if batch else (await self.etcd.head(), [])
@@ -138,7 +138,7 @@ class Recorder:
         return stood
 
     async def read(self, head: str, others: list[Batch]) -> bool:
-        """Reads what others have appended up to a head, or a part; at first the ledger's birth. Whether it is all."""
+        """Reads batches up to a head, or some; returns whether that was all. Creates a ledger if there is none."""
         if not head:
             birth = secrets.token_hex(32)
             head, _ = await self.etcd.append("", json.dumps({"ledger": birth, "place": 0, "digest": birth}))
@@ -148,7 +148,7 @@ class Recorder:
         if told["ledger"] != self.state.identity or told["place"] < self.chain.place:
             raise Broken(f"etcd has another ledger than before, or an older one: {head}")
         if told["place"] == self.chain.place and told["digest"] != self.chain.digest.hex():
-            raise Broken(f"the batches in etcd have not the digest of the head: {head}")
+            raise Broken(f"the batches in etcd do not have the digest that its head has: {head}")
         try:
             if told["place"] > self.chain.place and not others:
                 others = await self.etcd.batches(self.chain.place)
@@ -159,11 +159,11 @@ class Recorder:
         return bool(self.chain.place >= told["place"])
 
     async def take(self) -> None:
-        """Takes what the checkpoint in etcd says."""
+        """Loads the checkpoint in etcd in place of what was read before."""
         mark, place = await self.etcd.mark(), self.chain.place
         if not mark or mark.place <= place:
-            raise Broken(f"etcd has neither the entries behind place {place} nor a checkpoint behind it")
-        with contextlib.suppress(Gone):  # another one stands for it meanwhile
+            raise Broken(f"etcd has neither the entries after place {place} nor a later checkpoint")
+        with contextlib.suppress(Gone):  # a later one has replaced it meanwhile
             pieces = [await self.etcd.piece(mark.place, number) for number in range(mark.pieces)]
             if await asyncio.to_thread(state_of, pieces) != mark.state:
                 raise Broken(f"the checkpoint of place {mark.place} in etcd is not what was written")
@@ -173,10 +173,10 @@ class Recorder:
             await self.state.forget_places(mark.place)
 
     def enter(self, batch: Batch, own: bool = False) -> None:
-        """Enters a batch that etcd has, or what of it was not entered yet, or that this recorder has just appended."""
+        """Applies a batch that etcd has (`own` if this recorder has just appended it), or the part that is new here."""
         rest, epoch = batch.behind(self.chain.place), self.ledger.epoch
         if rest.before != self.chain:
-            raise Broken(f"the batch in etcd behind place {batch.before.place} does not follow on what was read")
+            raise Broken(f"the batch in etcd after place {batch.before.place} does not follow on what was read")
         entries = self.chain.followed(rest.entries)
         for entry in entries:
             self.apply(entry)
@@ -190,24 +190,25 @@ class Recorder:
             self.size -= self.recent.popleft().size
 
     def apply(self, entry: Entry) -> Optional[str]:
-        """Enters an entry, and notes its place if it counts."""
+        """Applies an entry, and notes its place if it counts."""
         word = self.ledger.apply(entry)
         if word and not refusal(word):
             self.state.note_place(entry)
         return word
 
     def judge(self) -> tuple[dict[Taken, Answer], Optional[Batch]]:
-        """What is answered to what waits if what counts of it is appended now, as one batch. The first entry of each
-        poster comes first, then each one's second: so nobody waits behind all that another one posts."""
+        """Tries waiting entries on a copy of the ledger; returns the batch of those that count, and what to answer once
+        it is appended. The first entry of each poster goes first, then each one's second: nobody waits for all that
+        another one posts."""
         fork, places, answers = self.ledger.fork(), dict[str, int](), dict[Taken, Answer]()
-        numbers = collections.defaultdict[str, Iterator[int]](itertools.count)  # of entries among their poster's
+        numbers = collections.defaultdict[str, Iterator[int]](itertools.count)  # counts the entries of each poster
         waiting = [it for it in self.waiting.items() if not it[0].done()]
         waiting.sort(key=lambda it: next(numbers[it[1].partition("/")[0]]))
         for (taken, _), text in zip(waiting, fitting((text for _, text in waiting[:TOGETHER]), MOST_BATCH)):
             entry = Entry(self.chain.place + len(places) + 1, text)
             stands = fork.stands(entry)
             if text in places and not stands:
-                break  # what came between says otherwise: it is appended anew with the next batch
+                break  # an entry between says otherwise: this one is appended again with the next batch
             if place := places.get(text) or stands and self.state.place_of(text):
                 answers[taken] = place
             elif reason := fork.refused(entry):
@@ -215,20 +216,20 @@ class Recorder:
             else:
                 answers[taken] = places[text] = entry.revision
                 if fork.epoch != self.ledger.epoch:
-                    break  # what comes behind a turn of the epoch is tried on what it comes to
+                    break  # the copy is good up to an epoch change only
         return answers, Batch(self.chain, [*places]) if places else None
 
     async def behind(self, place: int, name: str = "") -> list[Batch]:
-        """What comes behind a place, or some of it; or raises `Gone`."""
+        """Returns the batches after a place, or only the first ones; raises `Gone` if etcd has dropped them."""
         found = [*itertools.takewhile(lambda it: it.last > place, reversed(self.recent))][::-1]
         if place < (found[0].before.place if found else self.chain.place):
             async with self.turns[name], self.turn:
                 found = await self.etcd.batches(place)
-        sizes = itertools.accumulate((it.size for it in found[1:]), initial=0)  # beside the first one, which is told
+        sizes = itertools.accumulate((it.size for it in found[1:]), initial=0)  # beyond the first
         return [it.behind(place) for it, size in zip(found, sizes) if size <= HELD]
 
     async def refresh(self) -> None:
-        """Waits until this has all that the ledger has now."""
+        """Waits until this recorder has all that the ledger has now; raises `Failed` after `FRESH` seconds."""
         begun = time.monotonic()
         self.bell.set()
         if not await self.news.until(lambda: self.seen > begun, FRESH):

@@ -1,4 +1,4 @@
-"""A recorder over HTTP: who has a certificate of the network posts under its name, and follows."""
+"""A recorder over HTTP: clients with a certificate of the network post under the name in it, and follow the ledger."""
 import asyncio
 import base64
 import collections
@@ -26,8 +26,8 @@ from .state import State
 MOST_BODY, MOST_ENTRIES, MOST_PLACE = 1_048_576, 4_096, 10**12 - 1  # bytes and entries of a body; the last place
 REQUEST, ANSWER = 30.0, 8.0  # seconds
 CONNECTIONS, OF_NAME, OF_OTHERS = 1_024, 64, 4  # connections, those of one name, and those of a name that may not post
-EACH = 32  # requests of one name that are under way
-MOST_WAITING = 65_536  # entries that wait
+EACH = 32  # requests of one name under way at most
+MOST_WAITING = 65_536  # entries that wait at most
 
 
 class Service(Server):
@@ -38,11 +38,11 @@ class Service(Server):
         self.recorder, self.settings = recorder, settings
         self.busy, self.asked = collections.Counter[str](), collections.Counter[str]()  # requests, and entries, by name
         self.connected = collections.Counter[str]()  # connections, by name
-        self.turns = collections.defaultdict[str, asyncio.Lock](asyncio.Lock)  # to have a body taken, by name
-        self.places: dict[str, int] = {}  # how far each name was told
+        self.turns = collections.defaultdict[str, asyncio.Lock](asyncio.Lock)  # held while a body is checked, by name
+        self.places: dict[str, int] = {}  # the place up to which each name was sent entries
 
     async def listen(self) -> int:
-        """Answers from here on; the port."""
+        """Starts the server; returns the port on which it listens."""
         app = web.Application(middlewares=[self.answer], client_max_size=MOST_BODY)
         app.add_routes(self.routes())
         context = ssl.create_default_context(ssl.Purpose.CLIENT_AUTH, cafile=self.settings.authority)
@@ -62,7 +62,7 @@ class Service(Server):
 
     @web.middleware
     async def answer(self, request: web.Request, handler: Callable[..., Awaitable[Any]]) -> web.StreamResponse:
-        """Has a request answered under the name in its certificate; what is wrong is told as JSON."""
+        """Passes a request on under the name in its certificate, within the bounds of that name; faults become JSON."""
         request.protocol.first.cancel()  # type: ignore[attr-defined]
         request["name"] = name = request.protocol.peer  # type: ignore[attr-defined]
         if not self.may_post(name):
@@ -84,8 +84,8 @@ class Service(Server):
             self.busy[name] -= 1
 
     async def post(self, request: web.Request) -> web.Response:
-        """Takes entries, and answers once the ledger has them. The bodies of a name are taken one after the other, and
-        behind each of them that name waits for as long as it took: so others have half of the time at least."""
+        """Reads entries, and answers once the ledger has them. Bodies of one name are checked one after another, and
+        after each the name waits for as long as the check took, so others have at least half of the time."""
         name, turn, loop = request["name"], self.turns[request["name"]], asyncio.get_running_loop()
         try:
             async with asyncio.timeout(REQUEST):
@@ -108,16 +108,16 @@ class Service(Server):
         return web.json_response([{"place": it} if isinstance(it, int) else {"refused": str(it)} for it in said])
 
     def take(self, name: str, body: bytes) -> Union[web.Response, asyncio.Future[list[Answer]]]:
-        """Has the entries of a body appended, or says what is wrong with it."""
+        """Queues the entries of a body and returns a future of their answers, or a response if the body is refused."""
         recorder = self.recorder
         try:
             texts = json.loads(body)
         except (ValueError, RecursionError):
-            return wrong(400, "the body is no JSON, or came too slowly or not at all")
+            return wrong(400, "the body is not JSON, or it came too slowly or not at all")
         if not isinstance(texts, list) or len(texts) > MOST_ENTRIES or not all(isinstance(it, str) for it in texts):
-            return wrong(400, f"the body is a list of at most {MOST_ENTRIES} texts KIND/FIELDS")
+            return wrong(400, f"the body must be a JSON list of at most {MOST_ENTRIES} texts KIND/FIELDS")
         if self.asked[name] + len(texts) > 2 * MOST_ENTRIES:
-            return wrong(429, f"{name} has {self.asked[name]} entries under way")
+            return wrong(429, f"{name} has {self.asked[name]} entries under way: post again once they are answered")
         if len(recorder.waiting) + len(texts) > MOST_WAITING:
             return wrong(503, f"{len(recorder.waiting)} entries wait already: post them again")
         self.asked[name] += len(texts)
@@ -126,10 +126,10 @@ class Service(Server):
         return taken
 
     async def follow(self, request: web.Request) -> web.StreamResponse:
-        """Tells entries behind a place, and then those that come, without end."""
+        """Sends the entries after a place, and then each new one, without end."""
         recorder, name, after = self.recorder, request["name"], number(request.query.get("after", "0"), MOST_PLACE)
         if after is None:
-            return wrong(400, "after is a place of the ledger, a number")
+            return wrong(400, "after must be a place of the ledger, a number")
         await recorder.refresh()
         if after > (end := recorder.chain.place):
             return wrong(409, f"the ledger ends at place {end}, but {after} entries were heard before: {PARTED}")
@@ -159,17 +159,18 @@ class Service(Server):
                 self.places[name] = place = chain.place
                 heard = await recorder.news.until(lambda: recorder.chain.place > place, BEAT)
                 batches = await recorder.behind(place, name) if heard else []
-                if not heard and not recorder.fresh:  # another recorder may see more
+                if not heard and not recorder.fresh:  # the follower turns to another recorder, which may see more
                     await tell(line_of({"error": recorder.slow}))
                     break
-        except (TimeoutError, OSError, Gone):  # who follows does not read, or is gone, or far behind; or etcd is away
+        except (TimeoutError, OSError, Gone):  # a follower that is slow, gone or far behind; or etcd is away
             if request.transport:
                 request.transport.abort()
         return response
 
     async def behind(self, after: int, name: str) -> tuple[Optional[Mark], list[Batch]]:
-        """What stands for what comes behind a place: a checkpoint, for who is new or asks for what is dropped, or else
-        the entries. While a checkpoint waits for nodes, what was before the one before it is dropped already."""
+        """Returns what a follower that has heard up to a place is sent: the checkpoint if it is new or asks for dropped
+        entries, and otherwise the entries. While a checkpoint waits for nodes, only the entries before the previous
+        checkpoint are dropped."""
         mark = await self.recorder.etcd.mark()
         stands = mark if mark and after < mark.place else None
         if stands and (stands.dropped or not after):
@@ -185,7 +186,7 @@ class Service(Server):
         recorder = self.recorder
         told = json.loads(recorder.head(recorder.chain)) | {"fresh": recorder.fresh, "said": recorder.fault}
         told |= {"epoch": recorder.ledger.epoch, "past": recorder.ledger.past, "followers": self.places}
-        with contextlib.suppress(Failed):  # all else is told without it
+        with contextlib.suppress(Failed):  # the status goes without `etcd` then
             told["etcd"] = dict(zip(("bytes", "used"), await recorder.etcd.sizes(1)))
         return web.json_response(told)
 
@@ -199,7 +200,7 @@ def etcd_of(settings: RecorderSettings) -> Etcd:
 
 
 async def serve(settings: RecorderSettings) -> int:
-    """Runs a recorder until it is told to end, or must."""
+    """Runs a recorder until a signal ends it, or it must stop; returns its exit status."""
     try:
         state = State.open(settings.state)
     except OSError as fault:
@@ -217,7 +218,7 @@ async def serve(settings: RecorderSettings) -> int:
     except (Broken, OSError, sqlite3.Error) as fault:
         told = f": restore it (network/OPERATING.md), or remove {settings.state}" if isinstance(fault, Broken) else ""
         if type(fault) is sqlite3.DatabaseError:
-            told = f": {settings.state} is torn, and a start makes it anew"
+            told = f": {settings.state} is torn: start the recorder again, and it makes a new one"
         print(f"{settings.name} must stop: {fault}{told}", file=sys.stderr, flush=True)
         return 1
     finally:

@@ -1,6 +1,6 @@
-"""Makes a ledger whole again that was restored from a snapshot of etcd: nodes are asked for the entries that they have
-heard behind it, and those on which the nodes of f+1 shards agree are appended again. No recorder runs meanwhile, and
-none has run over the older ledger: nodes tell the digest of what they have heard, up to its end at most."""
+"""Completes a ledger that was restored from a snapshot of etcd: asks nodes for the entries that they have heard after
+it, and appends those on which the nodes of f+1 shards agree. No recorder may run meanwhile, and none may have run over
+the older ledger: nodes send the digest of what they have heard, up to its end at most, so that this is noticed."""
 import asyncio
 import collections
 import sys
@@ -15,26 +15,26 @@ from .recorder import MOST_BATCH, POLL, Broken, Recorder
 from .recording import Service, etcd_of, wrong
 from .settings import RecorderSettings
 
-NOTHING = "the ledger is being restored: nothing is taken, and nothing told"
+NOTHING = "the ledger is being restored: until recorders run again, no entries are taken and none are sent"
 EMPTY = "etcd has no ledger: restore the snapshot at all members of etcd first (network/OPERATING.md)"
 OTHER = "etcd has other entries up to place {} than the nodes have heard, as a recorder has run over it meanwhile: "
 OTHER += "stop all recorders, and restore the snapshot at all members of etcd once more (network/OPERATING.md)"
 STRANGE = "{} heard more than the snapshot has, but had no shards in it, so nothing of that is believed: "
 STRANGE += "restore a later snapshot, or start the nodes that had shards then and restore again (network/OPERATING.md)"
 UNBELIEVED = (
-    "{} told of more without shards in the snapshot: it is not believed, as nodes of 2f+1 shards told all they have"
+    "{} reported more, but had no shards in the snapshot: not believed, as nodes of 2f+1 shards reported all they have"
 )
 
 
 class Restoring(Service):
-    """A service where a recorder's was, which is told tails of the ledger."""
+    """A service at a recorder's address, to which followers report their tails: the entries after the ledger's end."""
 
     def __init__(self, recorder: Recorder, settings: RecorderSettings):
         super().__init__(recorder, settings)
-        self.tails: dict[str, list[str]] = {}  # what each node has behind the ledger's end, or a piece of it
-        self.short: dict[str, int] = {}  # nodes that have not kept what comes next, and from where on they have
-        self.others = set[str]()  # nodes that have heard another ledger up to that end, or up to where they are
-        self.strangers = set[str]()  # who has told a tail, and had no shards up to that end
+        self.tails: dict[str, list[str]] = {}  # the tail of each node, or its beginning
+        self.short: dict[str, int] = {}  # nodes that have not kept the next entry, and the place after which they have
+        self.others = set[str]()  # nodes that have heard another ledger up to the end, or up to where they are
+        self.strangers = set[str]()  # names that reported a tail, and had no shards up to the end
         self.told, self.progress = asyncio.Event(), 0.0
 
     def routes(self) -> list[web.RouteDef]:
@@ -45,7 +45,7 @@ class Restoring(Service):
         return wrong(503, NOTHING)
 
     async def follow(self, request: web.Request) -> web.StreamResponse:
-        """Asks who has heard more than there is for what comes next, and each node whether it has heard the same."""
+        """Asks each node that has not reported, and whoever has heard more than there is, for a digest and a tail."""
         name, after, end = request["name"], int(request.query.get("after", "0")), self.recorder.chain.place
         self.places[name] = after
         if after <= end and name not in {*self.recorder.ledger.nodes} - {*self.tails} - self.others:
@@ -53,8 +53,8 @@ class Restoring(Service):
         return web.json_response({"error": NOTHING, "tail": min(after, end)}, status=409)
 
     async def hear(self, request: web.Request) -> web.Response:
-        """Takes what a node has behind the ledger's end, unless it has heard something else up to there, or up to where
-        it is."""
+        """Receives the tail of a node, unless that has heard other entries up to the ledger's end, or up to where it
+        is."""
         name, told, end = request["name"], await request.json(), self.recorder.chain.place
         after, entries = told["after"], [it for it in told["entries"] if isinstance(it, str)]
         if after > end:
@@ -69,7 +69,7 @@ class Restoring(Service):
         return web.json_response({})
 
     async def digest(self, place: int, name: str) -> str:
-        """The digest of all up to a place of the ledger, in digits; nothing if what is there is dropped."""
+        """Returns the digest of all entries up to a place, in hexadecimal; an empty text if the next was dropped."""
         if place == self.recorder.chain.place:
             return self.recorder.chain.digest.hex()
         try:
@@ -85,21 +85,21 @@ class Restoring(Service):
             self.strangers.add(name)
 
     def unbelieved(self) -> list[str]:
-        """Who has heard more, and has no shards up to the ledger's end."""
+        """Returns the names that have heard more, but have no shards up to the ledger's end."""
         return sorted((self.strangers | {*self.short}) - {*self.recorder.ledger.nodes})
 
     def is_all(self) -> bool:
-        """Whether nodes of 2f+1 shards have heard all of the ledger, and told what they have behind it."""
+        """Whether nodes of 2f+1 shards have heard all of the ledger, and reported their tails."""
         ledger, end = self.recorder.ledger, self.recorder.chain.place
         return sum(it in self.tails and self.places.get(it, 0) >= end for it in ledger.now) >= ledger.quorum
 
     def enough(self, names: list[str]) -> bool:
-        """Whether one of these nodes at least is correct."""
+        """Whether these nodes have more than f shards of one committee, so that at least one of them is correct."""
         ledger = self.recorder.ledger
         return any(sum(it in names for it in owners) > ledger.faults for owners in (ledger.now, ledger.next) if owners)
 
     def agreed(self) -> list[str]:
-        """The entries that come next, as far as enough nodes say so."""
+        """Returns the next entries, as far as enough nodes agree on them."""
         names, found, size = [*self.tails], list[str](), 0
         while size < MOST_BATCH:
             said = collections.defaultdict(list)
@@ -114,8 +114,8 @@ class Restoring(Service):
         return found
 
     async def find_end(self, seconds: float, told: asyncio.Event) -> None:
-        """Reads up to the ledger's end, which must have begun. etcd is waited for that has just been started, unless an
-        end is told."""
+        """Reads the ledger in etcd up to its end; raises `Broken` if there is none. Waits up to `seconds` for etcd,
+        which may have just been started, unless a signal ends this."""
         last, said = time.monotonic() + seconds, ""
         while True:
             try:
@@ -131,18 +131,19 @@ class Restoring(Service):
             await asyncio.sleep(POLL)
 
     async def restore(self, seconds: float) -> int:
-        """Appends what is agreed on until all nodes have told all, or none has told more for so long; how much."""
+        """Appends agreed entries until all nodes have reported everything, or nothing was appended for `seconds`.
+        Returns the number of entries."""
         recorder, count, self.progress = self.recorder, 0, time.monotonic()
         while time.monotonic() < self.progress + seconds:
-            if self.enough([*self.others]):  # else those who say so may lie
+            if self.enough([*self.others]):  # fewer may lie
                 raise Broken(OTHER.format(recorder.chain.place))
             if entries := self.agreed():
                 batch = Batch(recorder.chain, entries)
                 if not await recorder.step(batch):
-                    raise Broken("a recorder is running: end all of them first")
+                    raise Broken("a recorder is running: stop all recorders first")
                 count, self.progress = count + len(entries), time.monotonic()
                 self.tails.clear()
-                print(f"{count} entries are there again, up to place {recorder.chain.place}", flush=True)
+                print(f"{count} entries are back so far, up to place {recorder.chain.place}", flush=True)
             elif {*recorder.ledger.nodes} <= {*self.tails, *self.others}:
                 break
             self.told.clear()
@@ -151,7 +152,7 @@ class Restoring(Service):
 
 
 async def serve(settings: RecorderSettings, seconds: float) -> int:
-    """Runs until the ledger is whole, or nobody tells more."""
+    """Runs until the ledger is complete, nobody reports more, or a signal ends it; returns the exit status."""
     recorder = Recorder(etcd_of(settings))
     service, told = Restoring(recorder, settings), ending()
     try:
@@ -166,7 +167,7 @@ async def serve(settings: RecorderSettings, seconds: float) -> int:
                 print(f"{name} has heard other entries than etcd has")
             elif name not in service.tails:
                 first = service.short.get(name)
-                print(f"{name} {f'has kept nothing before place {first}' if first else 'was not heard at the end'}")
+                print(f"{name} {f'has kept nothing before place {first}' if first else 'was silent at the end'}")
         print(f"{count or 0} entries are back; the ledger ends at place {recorder.chain.place}", flush=True)
         status = 0 if count is not None else 1
         if not count and (strangers := service.unbelieved()):

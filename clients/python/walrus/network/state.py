@@ -1,4 +1,4 @@
-"""What a ledger has come to, in SQLite: its blobs by identifier, and how far it was heard; a start goes on there."""
+"""The state of a ledger in SQLite: its blobs by identifier, and how far it was heard; a restart goes on from there."""
 import asyncio
 import collections
 import contextlib
@@ -17,13 +17,13 @@ from .entries import Chain, Entry
 from .ledger import Ledger
 from .notify import alive
 
-EACH, LATER = 0.5, 1.0  # seconds between two commits, and if the disk is full
-REST = 10  # times as long as it took to enter again what a full disk did not take, until it is tried again
+EACH, LATER = 0.5, 1.0  # seconds between two commits; the same at least after the disk took none, such as when full
+REST = 10  # the pause after a failed commit, as a multiple of the time that it took to apply its entries again
 PAGES = 32_768  # KiB of the database that are kept in memory
 VERSION = 3  # of the tables
-DROPPED = 1_000  # rows of what is over that go with a commit
-STEPS = 1_000_000  # of SQLite's machine, which take some tenths of a second, until the service manager is told again
-TORN = sqlite3.SQLITE_CORRUPT, sqlite3.SQLITE_NOTADB, sqlite3.SQLITE_ERROR  # a database that is none, or another's
+DROPPED = 1_000  # rows of blobs that are over, or entries of the tail, that are deleted with a commit at most
+STEPS = 1_000_000  # of SQLite's machine, some tenths of a second: after each the service manager gets a sign of life
+TORN = sqlite3.SQLITE_CORRUPT, sqlite3.SQLITE_NOTADB, sqlite3.SQLITE_ERROR  # damaged, no database, or another's
 TABLES = """
 PRAGMA synchronous = NORMAL;
 PRAGMA cache_spill = OFF;
@@ -33,7 +33,7 @@ CREATE TABLE IF NOT EXISTS told (one INTEGER PRIMARY KEY CHECK (one = 1), value 
 CREATE TABLE IF NOT EXISTS places (digest BLOB PRIMARY KEY, place INTEGER) WITHOUT ROWID; -- of entries, at a recorder
 """
 TELL = "INSERT OR REPLACE INTO told VALUES (1, ?)"
-# What a ledger says beside its blobs, and how that is made of what a file says.
+# The state of a ledger beside its blobs, and how each value is made from JSON.
 FORMS: dict[str, Callable[[Any], Any]] = dict.fromkeys(("faults", "epoch", "revision", "concentrated"), int)
 FORMS |= {"now": tuple, "next": tuple, "calendar": tuple, "ready": frozenset, "expelled": frozenset}
 FORMS |= {"posted": collections.Counter, "addressed": collections.Counter, "shares": dict}
@@ -45,32 +45,32 @@ def short_digest(text: str) -> bytes:
 
 
 class State(Database):
-    """A database of one process; what was entered since it was saved is not there at the next start, and nothing is
-    saved while `entering`. Where a tail of so many epochs is to be kept, the one of now among them, it has their
-    entries too, and who keeps it drops the rows of blobs that are over."""
+    """The state of a ledger in a database that belongs to one process. A restart lacks what was applied since the last
+    commit, and nothing is committed while `entering`. With a `tail` it also keeps the entries of that many epochs, the
+    present one among them; its owner then drops the rows of blobs that are over."""
 
     def __init__(self, path: str = "", tail: int = 0, pages: int = PAGES):
         self.tail, self.pages, self.identity, self.entering = tail, pages, "", False
         self.chain: Optional[Chain] = None
-        self.fresh = list[Entry]()  # entries that the disk does not have yet
-        self.again = self.due = 0.0  # when a full disk is tried again, and when what is to be kept soon is saved
+        self.fresh = list[Entry]()  # entries that were applied since the last commit
+        self.again = self.due = 0.0  # when to try a full disk again; when to commit what is saved with `soon`
         super().__init__(path)
 
     def open_tables(self) -> None:
         [(version,)] = self.base.execute("PRAGMA user_version")
         if version != VERSION and self.base.execute("SELECT 1 FROM sqlite_master").fetchone():
             raise ValueError("its tables are of another version")
-        self.must_be_whole()  # before there is memory for many pages, which this would fill
+        self.must_be_whole()  # before the cache of pages is enlarged, as this check would fill it
         self.base.executescript(f"PRAGMA cache_size = -{self.pages}; PRAGMA user_version = {VERSION};{TABLES}")
         self.blobs = Blobs(self.base)
-        self.ledger, self.saved = Ledger(self.blobs), 0  # the epoch that was saved
-        self.apply: Callable[[Entry], Optional[str]] = self.ledger.apply  # enters again what the disk did not take
+        self.ledger, self.saved = Ledger(self.blobs), 0  # `saved`: the epoch of the last commit
+        self.apply: Callable[[Entry], Optional[str]] = self.ledger.apply  # used to apply entries again after a rollback
         self.born = json.dumps(self.fields())
         self.base.execute("BEGIN IMMEDIATE")
         self.load()
 
     def load(self) -> None:
-        """Takes what was saved; where nothing was, what a ledger says before its first entry."""
+        """Loads what was committed; if nothing was, the state of a ledger before its first entry."""
         row = self.base.execute("SELECT value FROM told").fetchone()
         self.put(json.loads(row[0]) if row else json.loads(self.born) | {"ledger": self.identity})
         self.saved = self.ledger.epoch
@@ -79,28 +79,28 @@ class State(Database):
 
     @classmethod
     def open(cls, path: str, tail: int = 0, pages: int = PAGES) -> "State":
-        """The state in a file; elsewhere for the time being if another process has it, and anew if it is torn, or of
-        another version."""
+        """Opens the state in a file; makes a new file if this one is damaged or of another version, and returns a state
+        without a file if another process has it. Raises `OSError` for other faults, such as a full disk."""
         try:
             return cls(path, tail, pages)
         except BlockingIOError:
             return cls(pages=pages)
         except (sqlite3.DatabaseError, ValueError, KeyError, TypeError) as fault:
             if getattr(fault, "sqlite_errorcode", sqlite3.SQLITE_CORRUPT) & 0xFF not in TORN:
-                raise OSError(f"{path} is not opened: {fault}") from fault  # such as a disk that is full
+                raise OSError(f"{path} cannot be opened: {fault}") from fault
             for end in ("", "-wal", "-shm"):
                 pathlib.Path(path + end).unlink(missing_ok=True)
             return cls(path, tail, pages)
 
     def fields(self) -> dict[str, Any]:
-        """All that the ledger says beside its blobs, and how far it was heard."""
+        """Returns the state of the ledger beside its blobs, and how far it was heard, as values for JSON."""
         chain, said = self.chain or Chain(0, b""), {name: getattr(self.ledger, name) for name in FORMS}
         told = {"ledger": self.identity, "place": chain.place, "digest": chain.digest.hex()}
         told |= {name: sorted(it) if isinstance(it, frozenset) else copy.copy(it) for name, it in said.items()}
         return told | {"sizes": self.blobs.counts() | {"number": self.blobs.number}}
 
     def put(self, told: dict[str, Any]) -> None:
-        """Has the ledger say this beside its blobs."""
+        """Replaces the state of the ledger beside its blobs."""
         self.identity, self.chain = told["ledger"], Chain(told["place"], bytes.fromhex(told["digest"]))
         empty: dict[str, Any] = {"posted": {}, "addressed": {}, "shares": {}, "addresses": {}, "past": {}}
         told = empty | told  # a checkpoint leaves out what is empty
@@ -110,25 +110,26 @@ class State(Database):
         blobs.number, blobs.epoch, blobs.needed = number, self.ledger.epoch, self.ledger.quorum
 
     def save(self, chain: Chain, entries: Iterable[Entry] = (), soon: bool = False) -> None:
-        """Keeps what these entries came to, the last ones up to there; with the next ones, if the disk is full, or if
-        soon will do. A turn of the epoch is kept at once, and what is not is heard again."""
+        """Commits the state after these entries, which end with this chain; or leaves that to a later call if the disk
+        is full, or if `soon` and the last commit was a moment ago. An epoch change is committed at once. What a crash
+        loses is heard again."""
         self.chain = chain
         self.fresh += entries
         if not soon or time.monotonic() >= self.due or self.ledger.epoch != self.saved:
             self.settle()
 
     def settle(self) -> bool:
-        """Saves what was noted; whether the disk has all that was entered."""
+        """Commits what was applied, unless the disk has just failed; returns whether the disk has all of it."""
         if time.monotonic() < self.again or self.entering or not (chain := self.chain):
             return self.whole
         try:
             self.commit()
             self.again, self.due, self.fault = 0.0, time.monotonic() + EACH, ""
             self.fresh.clear()
-        except sqlite3.OperationalError as fault:  # what came since the disk last took something is rolled back
+        except sqlite3.OperationalError as fault:  # everything since the last commit is rolled back
             self.tell(fault)
             begun = time.monotonic()
-            if self.base.in_transaction:  # SQLite has done so where COMMIT failed
+            if self.base.in_transaction:  # SQLite may have rolled back already when COMMIT failed
                 self.base.execute("ROLLBACK")
             self.base.execute("BEGIN IMMEDIATE")
             self.enter_again(chain)
@@ -136,7 +137,7 @@ class State(Database):
         return self.whole
 
     def enter_again(self, chain: Optional[Chain]) -> None:
-        """Has what is in the database, and what was entered up to there and the disk does not have yet."""
+        """Returns to the committed state, and applies the entries again that lead from it to this chain."""
         self.blobs.forget()
         self.load()
         for entry in self.fresh:
@@ -144,9 +145,9 @@ class State(Database):
         self.chain = chain
 
     def commit(self) -> None:
-        """Has the disk take what was entered; some of what is over goes with it."""
+        """Commits what was applied, and deletes some rows that are no longer needed."""
         if self.tail:
-            epoch = max(self.saved, self.ledger.epoch - 1)  # a turn is the last entry of an epoch
+            epoch = max(self.saved, self.ledger.epoch - 1)  # the entry that changes the epoch is its last one
             rows = [(it.revision, it.key, epoch) for it in self.fresh]
             self.base.executemany("INSERT OR REPLACE INTO entries VALUES (?, ?, ?)", rows)
             words = "DELETE FROM entries WHERE place < (SELECT min(place) FROM entries) + ? AND epoch <= ?"
@@ -161,28 +162,28 @@ class State(Database):
         self.saved = self.ledger.epoch
 
     def note(self, chain: Chain) -> None:
-        """Keeps the digest of a place."""
+        """Stores the digest of all entries up to a place."""
         self.base.execute("INSERT OR REPLACE INTO digests VALUES (?, ?)", (chain.place, chain.digest))
 
     async def take(self, pieces: Collection[bytes]) -> None:
-        """Has what a checkpoint says in place of all before, once the disk takes it."""
+        """Replaces the state by a checkpoint; retries until the disk takes it."""
         while True:
             try:
                 return await self.take_now(pieces)
-            except sqlite3.OperationalError as fault:  # as `open` tells those of a full disk
+            except sqlite3.OperationalError as fault:  # of a full disk, which is told from damage as in `open`
                 if getattr(fault, "sqlite_errorcode", sqlite3.SQLITE_FULL) & 0xFF in TORN:
                     raise
                 self.tell(fault)
             await asyncio.sleep(LATER)
 
     async def take_now(self, pieces: Iterable[bytes]) -> None:
-        """Does so; where that cannot be, all is as it was. A thread puts it into the file, and others read by a
-        connection of their own meanwhile, which has what was saved before until all of it is there. Without a file, or
-        where a node may drop rows meanwhile, it is put there at once. Who is cancelled can only close what is
-        `entering` then."""
+        """Does so once; if it fails, everything is as before. A thread writes the checkpoint to the file. Until all is
+        there, others read what was committed before, over a second connection. Without a file, or with a tail, as a
+        node may drop rows meanwhile, it is written on the event loop. After a cancellation the state is still
+        `entering` and can only be closed."""
         self.settle()
         self.entering, fault, base, fresh, chain = True, None, self.base, [*self.fresh], self.chain
-        base.execute("ROLLBACK")  # of nothing, or of what the disk does not take
+        base.execute("ROLLBACK")  # of nothing, or of what a full disk did not take
         reader: Optional[sqlite3.Connection] = None
         try:
             if self.name and not self.tail:
@@ -193,7 +194,7 @@ class State(Database):
                 await self.aside(lambda: self.replace(pieces))
                 reader.execute("COMMIT")
             else:
-                base.set_progress_handler(alive, STEPS)  # as the loop, which says so else, stands still for as long
+                base.set_progress_handler(alive, STEPS)  # the event loop, which else does so, is blocked
                 self.replace(pieces)
         except Exception as it:  # the disk is full, or these pieces are no checkpoint
             fault = it
@@ -201,7 +202,7 @@ class State(Database):
                 base.execute("ROLLBACK")
         self.fall_back()
         if reader:
-            with contextlib.suppress(sqlite3.Error):  # it stays in SQLite's log, which the next commit else empties
+            with contextlib.suppress(sqlite3.Error):  # if this fails, the next commit empties SQLite's log
                 await self.aside(lambda: base.execute("PRAGMA wal_checkpoint(PASSIVE)").fetchall())
             self.blobs.base = base
             reader.close()
@@ -215,7 +216,7 @@ class State(Database):
             raise fault
 
     def replace(self, pieces: Iterable[bytes]) -> None:
-        """Puts what a checkpoint says into the database in place of all that is there."""
+        """Replaces everything in the database by a checkpoint."""
         told, base = dict[str, Any](), self.base
         base.execute("PRAGMA cache_spill = ON")
         base.execute("BEGIN IMMEDIATE")
@@ -224,18 +225,18 @@ class State(Database):
         base.execute("DELETE FROM digests")
         base.execute(TELL, (json.dumps(told),))
         with contextlib.closing(State()) as other:
-            other.put(told)  # which raises where the next start could not read it
+            other.put(told)  # raises if the next start could not read it
         self.note(Chain(told["place"], bytes.fromhex(told["digest"])))
         base.execute("COMMIT")
 
     def fall_back(self) -> None:
-        """Has what is in the database alone."""
+        """Returns to the committed state."""
         self.blobs.forget()
         self.load()
         self.fresh.clear()
 
     def written(self) -> Iterator[bytes]:
-        """A checkpoint of what was entered, piece by piece, whatever is saved meanwhile."""
+        """Returns a checkpoint of the present state, piece by piece; commits in the meantime do not change it."""
         self.settle()
         base = sqlite3.connect(self.name, check_same_thread=False) if self.name else self.base
         rows = base.execute(ALL, (self.ledger.epoch,))
@@ -243,13 +244,13 @@ class State(Database):
         return checkpoint.parted(lines, checkpoint.LONGEST)
 
     def entries(self, after: int = -1, count: int = -1) -> list[Entry]:
-        """The tail behind a place, or so many entries of it."""
+        """Returns the entries of the tail after a place, or the first `count` of them."""
         self.settle()
         words = "SELECT place, text FROM entries WHERE place > ? AND epoch > ? ORDER BY place LIMIT ?"
         return [Entry(*row) for row in self.base.execute(words, (after, self.ledger.epoch - self.tail, count))]
 
     def digest(self, place: int) -> str:
-        """The digest of all up to a place of the tail, in digits; nothing if it is not known."""
+        """Returns the digest of all entries up to a place of the tail, in hexadecimal; an empty text if unknown."""
         words = "SELECT place, digest FROM digests WHERE place <= ? ORDER BY place DESC LIMIT 1"
         if not (row := self.base.execute(words, (place,)).fetchone()):
             return ""
@@ -258,17 +259,17 @@ class State(Database):
         return chain.digest.hex() if chain.place == place else ""
 
     def note_place(self, entry: Entry) -> None:
-        """Notes the place of an entry that counts, at a recorder, for who posts it again."""
+        """Notes the place of an entry that counts, so that a recorder can answer if it is posted again."""
         self.base.execute("INSERT OR REPLACE INTO places VALUES (?, ?)", (short_digest(entry.key), entry.revision))
 
     def place_of(self, text: str) -> Optional[int]:
-        """The place of an entry that counted."""
+        """Returns the noted place of an entry that counted, or None."""
         row = self.base.execute("SELECT place FROM places WHERE digest = ?", (short_digest(text),)).fetchone()
         return int(row[0]) if row else None
 
     async def forget_places(self, place: int) -> None:
-        """Forgets the places up to one, part by part, as others wait meanwhile; a recorder that takes a checkpoint does
-        so behind it."""
+        """Forgets the places up to one, part by part, as others wait meanwhile. It stops if a recorder begins to load a
+        checkpoint, as the recorder forgets them after that."""
         for first in range(256):
             if self.entering:
                 break
@@ -278,7 +279,7 @@ class State(Database):
 
     @property
     def whole(self) -> bool:
-        """Whether the disk has all that was entered."""
+        """Whether the disk has everything that was applied."""
         return not self.fresh and not self.entering
 
     def close(self) -> None:

@@ -1,4 +1,4 @@
-"""A whole network on this machine, with a gateway, for whoever tries it."""
+"""A whole network on this machine, with a gateway, to try it."""
 import argparse
 import asyncio
 import os
@@ -14,19 +14,20 @@ from .local import Local, find_program
 from .operating import shards_of
 from .transfers import Failure
 
-LONGEST = 600  # seconds until all is ready
+LONGEST = 600  # seconds until everything must be ready
 
 
 def nodes_in(folder: pathlib.Path) -> list[str]:
-    """The nodes whose settings are in a folder."""
+    """Returns the nodes whose settings are in a folder."""
     return sorted(path.stem for path in folder.glob("*.toml") if values_of(path).get("role") == "node")
 
 
 async def up(words: argparse.Namespace, options: Options) -> int:
-    """Runs etcd, recorders, nodes and a gateway until a signal ends them, or something is gone that all needs."""
+    """Runs etcd, recorders, nodes and a gateway until a signal ends them, or too much has ended for anything to be
+    stored. With `--add` it only makes the settings of nodes, and with `--detach` it runs in the background."""
     folder, program = (words.folder or pathlib.Path("walrus-network")).resolve(), find_program()
     if not os.access(program, os.X_OK):
-        raise Failure(f"{program} is not there: build it with ./walrus, or name it in WALRUS", 1)
+        raise Failure(f"{program} is not there: build it with ./walrus, or set WALRUS to its path", 1)
     folder.mkdir(parents=True, exist_ok=True)
     if words.detach:
         return detach(folder)
@@ -49,7 +50,7 @@ async def up(words: argparse.Namespace, options: Options) -> int:
         watching.add_done_callback(lambda _: told.set())
         status = await gateway.serve(folder, words.host, words.port, options, told)
         if watching.done():
-            raise Failure(f"it ends, as {watching.result()}: the logs are in {folder}", 1)
+            raise Failure(f"the network ends, as {watching.result()}: the logs are in {folder}", 1)
         watching.cancel()
         return status
     finally:
@@ -57,7 +58,7 @@ async def up(words: argparse.Namespace, options: Options) -> int:
 
 
 def detach(folder: pathlib.Path) -> int:
-    """Runs the same in the background; returns once all is ready, or its process has ended."""
+    """Runs the same command in the background; returns once it is ready, and raises `Failure` if it ends before."""
     log = folder / "up.log"
     before = log.stat().st_size if log.exists() else 0
     line = [sys.executable, "-m", "walrus.network", *(it for it in sys.argv[1:] if it != "--detach")]
@@ -66,7 +67,7 @@ def detach(folder: pathlib.Path) -> int:
     end = time.monotonic() + LONGEST
     while "\nready\n" not in (said := log.read_bytes()[before:].decode(errors="replace")):
         if process.poll() is not None or time.monotonic() > end:
-            raise Failure(f"it is not up: {said.strip()[-500:]}", 1)
+            raise Failure(f"the network is not up: {said.strip()[-500:]}", 1)
         time.sleep(0.1)
     print(f"{said.strip()}: kill {process.pid} ends it, and {log} tells of it")
     return 0

@@ -1,26 +1,26 @@
-"""Who waits until something holds, and goes on once it does."""
+"""Waiting until a condition holds."""
 import asyncio
 from typing import Callable, Optional
 
 
 class Waiting:
-    """Those who wait for news. What each of them waits for is looked at whenever there are some, and nobody is woken
-    for whom it does not hold."""
+    """Tasks that wait for conditions. Whenever there is news (`tell`), each condition is evaluated, and only the tasks
+    whose condition holds are woken."""
 
     def __init__(self) -> None:
         self.waiting = dict["asyncio.Future[None]", Callable[[], object]]()
 
     def tell(self) -> None:
-        """Lets go on those for whom it holds now."""
+        """Wakes the tasks whose condition holds now. If a condition raises, its own task gets the exception."""
         for waiting, holds in list(self.waiting.items()):
             try:
                 if not waiting.done() and holds():
                     waiting.set_result(None)
-            except Exception as fault:  # which is that one's alone
+            except Exception as fault:  # for that one alone
                 waiting.set_exception(fault)
 
     async def until(self, holds: Callable[[], object], seconds: Optional[float]) -> bool:
-        """Waits until something holds; whether it did in time."""
+        """Waits until a condition holds; returns whether it did within `seconds`, where None means without end."""
         if holds():
             return True
         waiting = asyncio.get_running_loop().create_future()
