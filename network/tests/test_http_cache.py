@@ -225,6 +225,8 @@ class Short(unittest.IsolatedAsyncioTestCase):
                 async with asyncio.timeout(60):
                     while not self.reader.is_short:
                         await asyncio.sleep(0.01)
+            self.reader.keeping.cancel()
+            await asyncio.wait([self.reader.keeping])
             self.assertEqual(self.kept(), [0, 1])
             await self.want(7)  # reads go on
             with mock.patch.object(self.reader, "stands", return_value=True):
