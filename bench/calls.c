@@ -1,12 +1,12 @@
-/* Prints what calls of libwalrus take in one process: alone, and in several threads at once.
+/* Prints the times of calls of libwalrus in one process: by one thread, and by several threads at once.
  *
  *     calls THREADS ROUNDS TIMES FILE WORD..
  *
- * A round has two parts, which follow each other: one thread makes so many calls one after the other, then each of so
- * many threads makes as many. What is printed are microseconds a call of the best round of one thread, microseconds of
- * the median round for a call of one thread, and for a call in each of the threads at once, and the median over the
- * rounds of how many times the work of one thread they all do in the same time. The input is the file, and is read
- * before the clock starts. All calls give the same status and bytes, or it fails. */
+ * A round has two parts: first one thread makes TIMES calls one after the other, then each of THREADS threads makes as
+ * many. Four numbers are printed: the microseconds a call of one thread in its best and in its median round, those of a
+ * call in all threads at once in the median round, and, as the median over the rounds, how many times the work of one
+ * thread they all do in the same time. The input is FILE, which is read before the clock starts. Unless all calls give
+ * the same status and bytes, it fails. */
 #include <pthread.h>
 #include <stdio.h>
 #include <stdlib.h>
@@ -75,7 +75,7 @@ static double now(void) {
     return time.tv_sec * 1e6 + time.tv_nsec / 1e3;
 }
 
-/* The microseconds a call of all calls in each of so many threads. */
+/* The microseconds a call while each of these threads makes all of its calls. */
 static double timed(struct call *calls, int threads) {
     pthread_t running[threads];
     double start = now();
@@ -106,7 +106,7 @@ int main(int count, char **given) {
     read_words(count - 5, given + 5);
     struct call *calls = taken(threads * sizeof *calls);
     struct call first = {{taken(1), 0}, 0, 0};
-    make(&first); /* how much room it needs */
+    make(&first); /* sets how much room it needs */
     for (int each = 0; each < threads; each++)
         calls[each] = (struct call){{memset(taken(first.room.length), 1, first.room.length), first.room.length}, 0, 0};
     double alone[rounds], together[rounds], work[rounds];
@@ -119,7 +119,7 @@ int main(int count, char **given) {
         if (calls[each].status || calls[each].written != first.room.length ||
             memcmp(calls[each].room.bytes, calls[0].room.bytes, first.room.length))
             fail("a call did not give the whole text, or another one than a call beside it");
-    double middle = median(alone, rounds); /* which leaves the best round first */
+    double middle = median(alone, rounds); /* sorts, so that the best round is first */
     printf("%.1f %.1f %.1f %.2f\n", alone[0], middle, median(together, rounds), median(work, rounds));
     return 0;
 }

@@ -1,11 +1,11 @@
 #!/usr/bin/env python3
-"""Writes what a gateway is asked for: gets.py FOLDER WALRUS F BLOBS SIZE GETS HOT CAPACITY.
+"""Writes requests to a gateway: gets.py FOLDER WALRUS F BLOBS SIZE GETS HOT CAPACITY.
 
 There are BLOBS blobs of SIZE bytes, whose slivers the program WALRUS makes, and GETS requests for 4 KiB. Each blob is
-asked for once, in turn, and then HOT of them, but for one request in 250, which is for any. A request for what is not
-kept, of CAPACITY blobs that were used last, follows the metadata and the last f+1 primary slivers of its blob. FOLDER
-gets the input `gets`, the text `lines` that is to come, and of the first blob its `replies` and its `identifier`. On
-standard output it writes how many requests find no blob kept.
+requested once, in turn; after that, requests are for the first HOT blobs, except one in 250, which is for any blob. The
+gateway keeps the CAPACITY blobs that were used last. Before a request for any other blob come the blob's metadata and
+its last f+1 primary slivers. Into FOLDER go the input `gets`, the expected output `lines`, and the `replies` and the
+`identifier` of the first blob. The number of requests that find their blob not kept goes to standard output.
 """
 import collections
 import pathlib
@@ -14,7 +14,7 @@ import subprocess
 import sys
 
 RANGE = 4096
-COLD = 250  # one request of so many is for any blob
+COLD = 250  # one in this many requests is for any blob
 
 
 def envelope(payload):
@@ -31,14 +31,14 @@ def split(stream):
 
 
 def replies_of(program, faults, blob):
-    """The blob's identifier, and in envelopes the metadata and the last f+1 primary slivers."""
+    """Return the blob's identifier, and the envelopes with its metadata and last f+1 primary slivers."""
     encoded = subprocess.run([program, "encode", str(faults)], input=blob, stdout=subprocess.PIPE, check=True).stdout
     metadata, *slivers = split(encoded)
     return slivers[0][1:33], b"".join(map(envelope, [metadata, *slivers[::2][-faults - 1:]]))
 
 
 def drawn_blobs(count, gets, hot):
-    """Which blob each request is for."""
+    """Yield for each request the number of its blob."""
     drawn = random.Random(1)
     yield from range(count)
     for _ in range(gets - count):

@@ -1,8 +1,8 @@
 #!/usr/bin/env python3
 """Writes streams of envelopes for bench/run, the same each time.
 
-    bench/members.py members COUNT SIZE   files of so many bytes, for `bundle`
-    bench/members.py parts COUNT SIZE     primary slivers of so many bytes, each of another identifier, for `image`
+    bench/members.py members COUNT SIZE   COUNT files of SIZE bytes, for `bundle`
+    bench/members.py parts COUNT SIZE     COUNT primary slivers of SIZE bytes, each of a different blob, for `image`
 """
 import random
 import struct

@@ -1,7 +1,7 @@
 /*
- * The openings that shards send to recover a sliver: `openings AXIS INDEX` takes what `walrus encode` writes, and writes
- * its metadata and then the openings of the primary (AXIS 0) or secondary (AXIS 1) sliver INDEX from as many shards as
- * recovery needs, the last ones, whose slivers are redundant. Its multiplication in GF(2^16) and its trees are its own.
+ * The openings that shards send to recover a sliver: `openings AXIS INDEX` reads the output of `walrus encode`, and
+ * writes its metadata and then the openings of the primary (AXIS 0) or secondary (AXIS 1) sliver INDEX. They come from
+ * the last shards, whose slivers are redundant, as many as recovery needs. It has its own code for GF(2^16) and trees.
  *
  * Build: gcc -O3 -march=native -o openings openings.c -lcrypto
  */
@@ -27,7 +27,7 @@ static const uint32_t POLYNOMIAL = 0x1100b;
 static uint16_t power[2 * WORDS];
 static uint32_t exponent[WORDS];
 
-/* What the envelopes of an encoding hold, and the target. */
+/* The envelopes of an encoding with its shape, and the target. */
 struct blob {
     uint8_t *bytes; /* the envelopes */
     size_t metadata; /* bytes of the first envelope, which is the metadata */

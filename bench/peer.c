@@ -1,8 +1,8 @@
 /*
  * The work of `walrus id F`, `walrus encode F` and `walrus read ID`, done with well-known parts: gf-complete multiplies
- * regions of words of GF(2^16), and OpenSSL makes the SHA-256 digests. It takes the same standard input and writes the
- * same standard output. `read` wants the metadata and then f + 1 true primary slivers of any shards, no more; it gives
- * up where one is false, which walrus passes over.
+ * regions of words of GF(2^16), and OpenSSL makes the SHA-256 digests. It reads the same standard input and writes the
+ * same standard output. `read` needs the metadata and then exactly f + 1 valid primary slivers of any shards; it fails
+ * if one is false, while walrus ignores that.
  *
  * Build: gcc -O3 -march=native -o peer peer.c -lgf_complete -lcrypto
  */
@@ -56,7 +56,7 @@ static void fail(const char *why)
     exit(1);
 }
 
-/* Memory of zeros, which the system gives without a pass over it where it is large. */
+/* Memory of zeros; if it is large, the system provides it without writing to it. */
 static void *memory(size_t size)
 {
     void *made = calloc(size, 1);
@@ -141,7 +141,7 @@ static uint16_t *coefficients(const struct places *known, const struct places *w
     return table;
 }
 
-/* Adds to a line, in one strip of it, what the known lines from `first` to before `end` give. */
+/* Adds to a line, in one strip of it, the contributions of the known lines from `first` to before `end`. */
 static void add_lines(const struct matrix *matrix, const struct places *known, size_t first, size_t end,
                       const uint16_t *scales, size_t target, size_t from)
 {
@@ -151,7 +151,7 @@ static void add_lines(const struct matrix *matrix, const struct places *known, s
                                   size, 1);
 }
 
-/* Fills the wanted lines strip by strip, a few sources at a time, which stay in the cache while all take them in. */
+/* Fills the wanted lines strip by strip, a few sources at a time, which stay in the cache while all lines use them. */
 static void fill_lines(const struct matrix *matrix, const struct places *known, const struct places *wanted)
 {
     uint16_t *table = coefficients(known, wanted);
@@ -199,7 +199,7 @@ static void digest(uint8_t mark, const uint8_t *content, size_t length, uint8_t 
     SHA256_Final(out, &context);
 }
 
-/* The root over digests of leaves, which is left in the first place. There is room for one more. */
+/* Computes the root over digests of leaves, in the first place. There must be room for one more digest. */
 static void root(uint8_t *level, size_t count)
 {
     while (count > 1) {
@@ -211,7 +211,7 @@ static void root(uint8_t *level, size_t count)
     }
 }
 
-/* For each shard the root of its row and that of its column. A symbol's digest as a leaf is made once for both. */
+/* For each shard the root of its row and that of its column. A symbol's leaf digest is computed once for both. */
 static uint8_t *pairs_of(const struct shape *shape, const struct matrix *rows)
 {
     size_t shards = shape->shards, size = shape->symbol;
@@ -250,7 +250,7 @@ static uint64_t number_at(const uint8_t *bytes, size_t size)
     return number;
 }
 
-/* The number of faults and the blob's length, as metadata and the identifier's text have them. */
+/* The number of faults and the blob's length, as in metadata and in the text of the identifier. */
 static void put_numbers(const struct shape *shape, uint8_t out[NUMBERS])
 {
     put_number(out, 2, shape->faults);
@@ -360,7 +360,7 @@ static void encode_blob(size_t faults, int envelopes)
     }
 }
 
-/* The shape in the metadata with which the input begins, where it goes on as it should. */
+/* The shape in the metadata at the beginning of the input; fails if the input does not continue as it should. */
 static struct shape shape_in(const uint8_t *input, size_t size)
 {
     uint8_t head[METADATA];
@@ -375,7 +375,7 @@ static struct shape shape_in(const uint8_t *input, size_t size)
     return shape;
 }
 
-/* Lays primary slivers into their rows, which become known, from their envelopes. */
+/* Copies primary slivers from their envelopes into their rows, which are known then. */
 static struct places take_slivers(const struct shape *shape, const struct matrix *rows, const uint8_t *envelopes,
                                   const uint8_t id[DIGEST])
 {
@@ -408,7 +408,7 @@ static void write_blob(const struct shape *shape, const struct matrix *rows)
     fwrite(blob, 1, shape->length, stdout);
 }
 
-/* All roots are made, and so a false sliver is found by its row's, as slivers of no blob are by another's. */
+/* All roots are computed: a false sliver gives another root for its row, and slivers of no blob for some other row. */
 static void read_blob(const char *identifier)
 {
     size_t size;

@@ -6,13 +6,13 @@
     requests.py registrations COUNT ORDER
     requests.py metadata COUNT ORDER
 
-The first stores COUNT blobs of SIZE bytes, whose slivers the program WALRUS makes, and then asks READS times for each
-of them. On standard error it writes three numbers: the pages that the blobs cost, the bytes that must be hashed, and
-the bytes that are stored and read. The second asks COUNT times for something small: it registers a blob, asks for it,
-for one of its symbols, and for an acknowledgement, in turn.
+`blobs` stores COUNT blobs of SIZE bytes, whose slivers the program WALRUS makes, and then reads each READS times. On
+standard error it prints three numbers: the pages that the blobs cost, the bytes that must be hashed, and the bytes that
+are stored and read. `small` makes COUNT small requests: in turn it registers a blob, reads it, and asks for one of its
+symbols and for an acknowledgement.
 
-The third registers COUNT blobs with identifiers that look random, in the ORDER `random`, or sorted with `ascending`.
-The fourth registers COUNT blobs of f = 1, sorted, and then stores a metadata of each in that order of identifiers.
+`registrations` registers COUNT blobs with random-looking identifiers, in the ORDER `random`, or sorted (`ascending`).
+`metadata` registers COUNT blobs of f = 1, sorted, and then stores the metadata of each in that ORDER of identifiers.
 """
 import random
 import subprocess
@@ -20,7 +20,7 @@ import sys
 from hashlib import sha256
 
 PAGE = 4096
-NODE = 65  # the bytes of a parent's text in a tree
+NODE = 65  # the bytes that are hashed for an inner node of a tree
 
 
 def envelope(payload):
@@ -49,7 +49,7 @@ def next_payload(stream):
 
 
 def parts_of(program, faults, blob):
-    """The payloads of the blob's metadata and of shard 0's two slivers."""
+    """Return the payloads of the blob's metadata and of shard 0's two slivers."""
     with subprocess.Popen([program, "encode", str(faults)], stdin=subprocess.PIPE, stdout=subprocess.PIPE) as encoder:
         encoder.stdin.write(blob)
         encoder.stdin.close()
@@ -59,7 +59,7 @@ def parts_of(program, faults, blob):
 
 
 def tree_bytes(leaves, size):
-    """The bytes that a tree over so many leaves of this size hashes."""
+    """Return the number of bytes that are hashed for a tree over `leaves` leaves of `size` bytes."""
     total, count = leaves * (size + 1), leaves
     while count > 1:
         count = (count + 1) // 2
@@ -112,7 +112,7 @@ def digest(*parts):
 
 
 def committed(pairs):
-    """The identifier and the metadata of a blob of f = 1 and 12 bytes with these four pairs of roots."""
+    """Return the identifier and metadata of a blob of 12 bytes, f = 1, with these four pairs of roots."""
     numbers = (1).to_bytes(2, "big") + (12).to_bytes(8, "big")
     leaves = [digest(b"\0", pair) for pair in pairs]
     root = digest(b"\1", digest(b"\1", *leaves[:2]), digest(b"\1", *leaves[2:]))
@@ -120,7 +120,7 @@ def committed(pairs):
 
 
 def metadata(count, order):
-    """The roots look random, as no blob need be encoded: a shard sees of a metadata that its identifier commits it."""
+    """The roots are random and no blob is encoded: a shard checks only that the identifier commits to the metadata."""
     drawn = random.Random(1)
     blobs = [committed([drawn.randbytes(64) for _ in range(4)]) for _ in range(count)]
     sys.stdout.buffer.write(b"".join(register(identifier) for identifier, _ in sorted(blobs)))

@@ -3,10 +3,10 @@
 
     schedule.py KIND COUNT [REPORT]
 
-KIND is words, writes, recoveries, handovers or one of expire-none, expire-half, expire-all and epochs: COUNT events at
-most, for f = 1. Or it is blobs, which has a write for
-each of COUNT blobs of those; the report of its replay is the REPORT from which they take the identifiers. Or it is
-large: a blob of COUNT bytes is written to 1,000 shards and read from them, or only written where there is no REPORT.
+KIND is words, writes, recoveries, handovers, expire-none, expire-half, expire-all or epochs: at most COUNT events, for
+f = 1. Or it is blobs: a write to no shard of each of COUNT blobs that these use; the report of its replay is the REPORT
+from which the other kinds take the blobs' identifiers. Or it is large: a blob of COUNT bytes is written to 1,000 shards
+and read from them, or written to none if there is no REPORT.
 """
 import json
 import sys
@@ -41,7 +41,7 @@ def blobs(count):
 
 
 def words(count):
-    """Registrations, and acknowledgements by four faulty shards."""
+    """Return registrations, each with acknowledgements by four faulty shards."""
     events = []
     for number in range(count // 5):
         identifier = (number * 2654435761 % 2**32).to_bytes(32, "little").hex()
@@ -58,7 +58,7 @@ def writes(count, identifiers):
 
 
 def recoveries(count, identifiers):
-    """A blob that three shards hold, and both slivers of the fourth."""
+    """Return events for blobs that three shards store, and of which the fourth recovers both slivers."""
     events = []
     for number in range(count // 4):
         identifier = identifiers[number]
@@ -68,7 +68,7 @@ def recoveries(count, identifiers):
 
 
 def handovers(count, identifiers):
-    """Certified blobs, and sixteen changes of the epoch; in each of them one shard begins with nothing and recovers."""
+    """Return events for certified blobs and 16 epoch changes, in each of which one shard begins empty and recovers."""
     changes = 16
     kept = (count - changes * 6) // (2 * changes + 6)
     events = []
@@ -85,7 +85,8 @@ def handovers(count, identifiers):
 
 
 def expiring(count, identifiers, until, changes):
-    """Stored blobs, and changes of the epoch in which all shards stay; `until` tells when the blob of a number expires."""
+    """Return events that store blobs and then change the epoch, with all shards staying. `until` gives the epoch in
+    which a blob expires, by its number and the number of blobs."""
     kept = (count - 6 * changes) // 2
     events = []
     for number in range(kept):
@@ -96,7 +97,7 @@ def expiring(count, identifiers, until, changes):
     return events
 
 
-EXPIRING = {  # the epoch in which the blob of a number expires, and how many changes of the epoch there are
+EXPIRING = {  # the epoch in which a blob expires, by its number, and the number of epoch changes
     "expire-none": (lambda number, kept: 65536, 2),
     "expire-half": (lambda number, kept: 2 if number < kept // 2 else 65536, 2),
     "expire-all": (lambda number, kept: 2, 2),
@@ -105,7 +106,7 @@ EXPIRING = {  # the epoch in which the blob of a number expires, and how many ch
 
 
 def large(size, identifiers):
-    """One blob at 1,000 shards."""
+    """Return events for one blob at 1,000 shards; without its identifier, only a write to no shard."""
     shards = list(range(1000))
     content = bytes(number * 37 % 251 for number in range(size)).hex()
     if not identifiers:

@@ -1,13 +1,13 @@
 #!/usr/bin/env python3
 """Compares the public contracts of two commits, clause by clause: docs/clauses.py OLD [NEW].
 
-Without NEW it compares with the files of the checkout. For each `pub fn`, and each function of a `pub trait`, in
-crates/*/src it prints what was added (+), lost (-) or changed (~): the function itself, its signature, and its clauses
-`requires` and `ensures` by their names, or by their number if they have none. Spaces, line ends and comments do not
-count. A function that went to another crate is compared with itself there.
+Without NEW, OLD is compared with the files of the checkout. For each `pub fn`, and each function of a `pub trait`, in
+crates/*/src, this prints what was added (+), lost (-) or changed (~): the function itself, its signature, and its
+`requires` and `ensures` clauses by name, or by number if they have no name. White space and comments do not count. A
+function that moved to another crate is compared with itself there.
 
-What a clause says may also change by a definition that it names: the files of specs/ that differ are listed last. The
-status is 0 if nothing differs, 1 if something does, and 2 if a commit cannot be read."""
+The meaning of a clause may also change through a definition that it names: so the files of specs/ that differ are
+listed last. The status is 0 if nothing differs, 1 if something does, and 2 if a commit cannot be read."""
 import dataclasses
 import io
 import pathlib
@@ -35,7 +35,7 @@ class Contract:
     clauses: dict[str, str] = dataclasses.field(default_factory=dict)
 
 
-# the contracts of a commit: by crate, owner and name
+# the contracts of a commit by crate, owner (a type or trait, or nothing) and name
 Contracts = dict[tuple[str, str, str], Contract]
 
 
@@ -44,7 +44,7 @@ def plain(text: str) -> str:
 
 
 def owner_of(head: str) -> tuple[str, bool]:
-    """The type or trait that a block with this head is of, and whether all its functions are public."""
+    """Return the type or trait whose block begins with this line, and whether all of its functions are public."""
     found = OWNER.match(head)
     if found is None:
         return "", False
@@ -55,7 +55,7 @@ def owner_of(head: str) -> tuple[str, bool]:
 
 
 def parse(text: str, file: str) -> Contract:
-    """The contract that a text begins with, up to the body of its function."""
+    """Return the contract at the beginning of a text, which ends at the body of its function."""
     made = Contract(file, "")
     parts: list[str] = []
     kind, name, depth, begun, numbers = "", "", 0, False, 0
@@ -86,7 +86,7 @@ def parse(text: str, file: str) -> Contract:
 
 
 def contracts_in(crate: str, file: str, text: str) -> Contracts:
-    """The contracts of a source file's public functions."""
+    """Return the contracts of a source file's public functions."""
     found: Contracts = {}
     owner, shared, at = "", False, 0
     for line in text.splitlines(keepends=True):
@@ -103,7 +103,7 @@ def contracts_in(crate: str, file: str, text: str) -> Contracts:
 
 
 def files_of(commit: str | None) -> Iterator[tuple[str, str]]:
-    """The files below crates/ at a commit, or in the checkout."""
+    """Yield the name and text of the source and spec files below crates/, of a commit or of the checkout."""
     if commit is None:
         for path in sorted((TOP / "crates").glob("*/s*/**/*")):
             if path.suffix in (".rt", ".antt"):
@@ -121,7 +121,7 @@ def files_of(commit: str | None) -> Iterator[tuple[str, str]]:
 
 
 def read(commit: str | None) -> tuple[Contracts, dict[str, str]]:
-    """The public contracts of a commit, and its files of definitions."""
+    """Return the public contracts of a commit, or of the checkout, and its files of definitions."""
     contracts: Contracts = {}
     specs: dict[str, str] = {}
     for file, text in files_of(commit):
@@ -134,7 +134,7 @@ def read(commit: str | None) -> tuple[Contracts, dict[str, str]]:
 
 
 def differing(old: Contract, new: Contract) -> Iterator[str]:
-    """What differs between two contracts of one function."""
+    """Yield a line for each difference between two contracts of one function."""
     if old.signature != new.signature:
         yield f"  ~ signature\n      {old.signature}\n      {new.signature}"
     for name in [*old.clauses, *(name for name in new.clauses if name not in old.clauses)]:
@@ -148,7 +148,7 @@ def differing(old: Contract, new: Contract) -> Iterator[str]:
 
 
 def pairs_of(old: Contracts, new: Contracts) -> Iterator[tuple[tuple[str, str, str], tuple[str, str, str]]]:
-    """The functions of both, and those that are in one crate of the old and in one other of the new."""
+    """Yield the functions that both have, and those that moved: from just one crate of the old to one of the new."""
     yield from ((key, key) for key in old if key in new)
     for key in old.keys() - new.keys():
         there = [other for other in new.keys() - old.keys() if other[1:] == key[1:]]
@@ -158,7 +158,7 @@ def pairs_of(old: Contracts, new: Contracts) -> Iterator[tuple[tuple[str, str, s
 
 
 def compare(old: Contracts, new: Contracts) -> Iterator[str]:
-    """What was added, lost and changed, a function at a time."""
+    """Yield a text for each function that was added, lost or changed."""
     pairs = dict(pairs_of(old, new))
     told: list[tuple[tuple[str, str, str], str, list[str]]] = []
     for key, other in pairs.items():

@@ -1,15 +1,15 @@
 #!/usr/bin/env python3
-"""Writes all definitions that claims rest on into docs/out/DEFINITIONS.md: python3 docs/definitions.py.
+"""Writes all definitions on which claims depend into docs/out/DEFINITIONS.md: python3 docs/definitions.py.
 
-With --check nothing is written. docs/definitions.txt is the source: its text is kept, and each run of lines
-`FILE: SOURCE`, with a file of specs/, becomes a table. The table has a row for each definition of these files that a
-clause of an exported function names, or, if there is none or the line has a * behind the file, for each that such a
-clause reaches. The row is the name, and what the comment above the definition says.
+With --check nothing is written. docs/definitions.txt is the source: its text is copied, except that each run of lines
+`FILE: SOURCE`, with a file of specs/, becomes a table. The table has a row for each definition in these files that a
+clause of an exported function names. If there is none, or the line has a * after the file, the table has a row for each
+definition that such a clause reaches through others. A row has the name, and the comment above the definition.
 
-Both tell which files lack a table, which definitions lack a comment, and which are in the wrong place: what no clause
-of an exported function reaches belongs into specs/inside/, and all else outside of it. They also compare
-docs/DEFINITIONS.md, the reading order: each file of specs/ that it names exists, and each block `antt FILE` has lines
-of that file, word for word."""
+With and without --check, faults are printed: files without a table, definitions without a comment, and definitions in
+the wrong place, since those that no clause of an exported function reaches belong into specs/inside/, and all others
+outside of it. docs/DEFINITIONS.md, the reading order, is checked too: each file of specs/ that it names must exist, and
+each block `antt FILE` must consist of lines of that file, word for word."""
 import dataclasses
 import pathlib
 import re
@@ -32,7 +32,7 @@ USE = re.compile(r"use Rattle\.(\w+)\.specs\.(?!declared)([\w.]+?)(?:\.\{([^}]*)
 
 @dataclasses.dataclass(frozen=True)
 class Definition:
-    """A definition: the file where it stands, what its comment says, the words of its text, and its constructors."""
+    """A definition: its file, name and comment, the words of its text, and its constructors."""
 
     file: str
     name: str
@@ -41,17 +41,17 @@ class Definition:
     constructors: tuple[str, ...]
 
 
-# what a name stands for in a file: a definition, as FILE.NAME, or a file, where it is a module
+# the meaning of each name in a file: a definition, as FILE.NAME, or for a module its file
 Names = dict[str, str]
 
 
 def signs_of(name: str) -> list[str]:
-    """What stands in a text for a name: itself, or the sign of an operator; `do` writes an arrow for a bind."""
+    """Return how a text spells a name: as itself, or as the sign of an operator; in `do` a bind is an arrow."""
     return ["←", ">>="] if name == "◌>>=◌" else [name.strip("◌")]
 
 
 def names_used(lines: list[str]) -> Names:
-    """The names of definitions that the `use` lines of a file bring in."""
+    """Return the names of definitions and modules that the `use` lines of a file import."""
     names: Names = {}
     for line in lines:
         found = USE.match(line.strip().removeprefix("ghost ").removeprefix("pub "))
@@ -67,7 +67,7 @@ def names_used(lines: list[str]) -> Names:
 
 
 def comment_above(lines: list[str], at: int) -> str:
-    """The comment that ends right above this line, or above the definitions that stand right above it."""
+    """Return the comment that ends right above this line, or above the `infix` line before it."""
     told: list[str] = []
     if at > 0 and lines[at - 1].startswith("infix"):
         at -= 1
@@ -78,7 +78,8 @@ def comment_above(lines: list[str], at: int) -> str:
 
 
 def read_file(path: pathlib.Path, file: str) -> tuple[list[Definition], Names]:
-    """The definitions of a file of specs/ in their order, and what names stand for in it."""
+    """Return the definitions of a file of specs/ in order, and the meaning of the names in it. A definition right below
+    another, without a comment of its own, shares the comment of that one."""
     lines = path.read_text().splitlines()
     heads = [at for at, line in enumerate(lines) if HEAD.match(line)]
     names = names_used(lines)
@@ -97,7 +98,7 @@ def read_file(path: pathlib.Path, file: str) -> tuple[list[Definition], Names]:
 
 
 class Specs:
-    """All definitions of the crates, and what each one's text names. A constructor stands for its type."""
+    """All definitions of the crates, and those that the text of each names. A constructor counts as its type."""
 
     def __init__(self) -> None:
         self.files: dict[str, list[Definition]] = {}
@@ -110,7 +111,7 @@ class Specs:
         self.types = {f"{it.file}.{part}": name for name, it in self.all.items() for part in it.constructors}
 
     def named(self, words: frozenset[str], names: Names) -> set[str]:
-        """The definitions that words stand for: NAME, or MODULE.NAME."""
+        """Return the definitions that these words name, as NAME or MODULE.NAME."""
         found = set()
         for word in words:
             first, _, rest = word.partition(".")
@@ -122,7 +123,7 @@ class Specs:
         return found
 
     def reached(self, roots: set[str]) -> set[str]:
-        """These definitions, and all that they stand on."""
+        """Return these definitions and all that they depend on."""
         seen: set[str] = set()
         todo = set(roots)
         while todo:
@@ -134,7 +135,7 @@ class Specs:
 
 
 def exported_names(crate: pathlib.Path) -> set[str]:
-    """The functions, types and traits that a crate exports."""
+    """Return the names of the functions, types and traits that a crate exports."""
     root = crate / "src" / "lib.rt"
     if not root.exists():
         return {"main"}
@@ -148,14 +149,15 @@ def exported_names(crate: pathlib.Path) -> set[str]:
 
 
 def type_of(header: str) -> str:
-    """The type that an `impl` is of."""
+    """Return the type that an `impl` block is for."""
     part = header.rpartition(" for ")[2] if " for " in header else re.sub(r"^impl(<.*?>)? ", "", header)
     found = WORD.search(part)
     return found[0] if found else ""
 
 
 def contract_words(path: pathlib.Path, exported: set[str]) -> set[str]:
-    """The words of a source file's contracts that callers of the crate see, of its types' values, and of digests."""
+    """Return the words of the contracts in a source file that callers of the crate see: those of exported functions,
+    and those of the values and digests of exported types."""
     words: set[str] = set()
     owner, seen, inside = "", False, False
     for line in path.read_text().splitlines():
@@ -178,7 +180,7 @@ def contract_words(path: pathlib.Path, exported: set[str]) -> set[str]:
 
 
 def roots_of(specs: Specs) -> set[str]:
-    """The definitions that clauses of exported functions name."""
+    """Return the definitions that clauses of exported functions name."""
     roots: set[str] = set()
     for crate in sorted(CRATES.glob("wal*")):
         exported = exported_names(crate)
@@ -190,7 +192,7 @@ def roots_of(specs: Specs) -> set[str]:
 
 
 def rows_of(definitions: list[Definition]) -> Iterator[str]:
-    """A row for each comment, with the names of the definitions that it is above."""
+    """Yield a row for each comment, with the names of all definitions below it."""
     names: dict[str, list[str]] = {}
     for it in definitions:
         names.setdefault(it.comment, []).append(f"`{it.name}`")
@@ -199,7 +201,7 @@ def rows_of(definitions: list[Definition]) -> Iterator[str]:
 
 
 class Page:
-    """The page of all definitions, and what is wrong with it, with the specs or with the reading order."""
+    """The page of all definitions, and the faults that were found in it, in the specs or in the reading order."""
 
     def __init__(self, specs: Specs) -> None:
         self.specs = specs
@@ -209,13 +211,13 @@ class Page:
         self.faults: list[str] = []
 
     def shown_of(self, file: str, whole: bool) -> list[Definition]:
-        """The definitions of a file that its rows are of."""
+        """Return the definitions of a file that get a row: those that clauses name, or if `whole` all reached ones."""
         told = self.specs.files[file]
         own = [it for it in told if f"{it.file}.{it.name}" in self.roots]
         return [it for it in told if f"{it.file}.{it.name}" in self.reached] if whole or not own else own
 
     def table(self, found: re.Match[str]) -> str:
-        """The table that stands for lines of the source."""
+        """Return the table that replaces a run of lines in the source."""
         lines = ["| Definition | What it says |", "|---|---|"]
         for line in found[0].splitlines():
             told, _, source = line.partition(": ")
@@ -231,13 +233,13 @@ class Page:
         return "\n".join(lines) + "\n"
 
     def made(self, source: str) -> str:
-        """The page of all definitions."""
+        """Return the page of all definitions; its faults are then in `faults`."""
         new = ROWS.sub(self.table, source)
         self.judge()
         return new
 
     def judge(self) -> None:
-        """Notes what stands in the wrong place or lacks a table."""
+        """Record the definitions that are in the wrong place, and the files that lack a table."""
         for name, it in self.specs.all.items():
             if ("/inside/" in it.file) == (name in self.reached):
                 side = "out of specs/inside/" if name in self.reached else "into specs/inside/"
@@ -246,7 +248,7 @@ class Page:
             self.faults.append(f"{SOURCE.name} has no line with {file}")
 
     def compare(self, page: str) -> None:
-        """Notes what the reading order names that is not there, or spells otherwise than the specs."""
+        """Record the files that the reading order names but do not exist, and its blocks that differ from the specs."""
         for file in sorted(set(re.findall(r"`(wal\w*/specs/[\w/]+)`", page))):
             if not (CRATES / f"{file}.antt").exists():
                 self.faults.append(f"{PAGE.name} names {file}, which is not there")

@@ -2,9 +2,9 @@
 """Draws docs/pictures/*.svg.
 
 pictures.py          writes them
-pictures.py --check  tells which of them are not what it would write
+pictures.py --check  prints which of them are not up to date
 
-That of the sample schedule needs the program, which the variable WALRUS names; it is left out where this is not set.
+The picture of the sample schedule needs the program, which the variable WALRUS names; without it, it is left out.
 """
 import collections
 import json
@@ -30,7 +30,7 @@ WORDS = [["0001", "0002", "0003", "0000"], ["0004", "0005", "0006", "0007"],
 
 
 class Picture:
-    """An SVG picture of a size, on a background of its own, to which shapes are added from back to front."""
+    """An SVG picture with a background, to which shapes are added from back to front."""
 
     def __init__(self, name, title, width, height):
         self.name = name
@@ -74,7 +74,7 @@ class Picture:
 
 
 def cell_fill(row, column, rows, columns, shard):
-    """The colour of a symbol of the matrix: a shard's slivers before the source block."""
+    """Return the colour of a symbol of the matrix; a shard's slivers take precedence over the source block."""
     if row == shard and column < columns:
         return PRIMARY
     if column == shard and row < rows:
@@ -116,7 +116,7 @@ def matrix_legend(picture, x, y):
 
 
 def tree(picture, x, y, leaves, root, fill):
-    """Four leaves with their inner nodes and root, growing downwards."""
+    """Draw four leaves with their inner nodes and root, growing downwards."""
     wide, step = 96, 102
     middle = x + step * 1.5 + wide / 2
     for place, words in enumerate(leaves):
@@ -169,7 +169,7 @@ def text_of_identifier(picture, x, y):
 
 
 def committee(picture, x, y, name, shards):
-    """A committee's shards, one below the other, each with a word on it."""
+    """Draw a committee's shards, one below the other, each with a label."""
     picture.text(x + 95, y - 14, name, 15, "middle", bold=True)
     for shard, (fill, words) in enumerate(shards):
         picture.box(x, y + 66 * shard, 190, 50, fill)
@@ -212,7 +212,7 @@ def time_line(picture, y):
 
 
 def layers():
-    """The layers of crates.txt, the lowest at the bottom."""
+    """Return the picture of the layers in crates.txt, the lowest at the bottom."""
     crates = tables.read_crates()
     chain = tables.chain_of(crates.below)
     across, wide, high = 5, 104, 28
@@ -234,7 +234,7 @@ def layers():
 
 
 class Timeline(collections.namedtuple("Timeline", "name content report")):
-    """The picture of a schedule and its report."""
+    """The timeline of a schedule and its report, as a picture."""
 
     def whole(self):
         story = read_report(read_schedule(self.content)[0], self.report)
@@ -242,7 +242,7 @@ class Timeline(collections.namedtuple("Timeline", "name content report")):
 
 
 def sample(program, number):
-    """The schedule of `walrus sample NUMBER`, and its report."""
+    """Return the timeline of the schedule of `walrus sample NUMBER`."""
     content = json.dumps(sample_schedule(program, number)).encode()
     ran = subprocess.run([program, "replay"], input=content, stdout=subprocess.PIPE, check=True, timeout=60)
     return Timeline("schedule_sample", content, ran.stdout)

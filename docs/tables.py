@@ -1,9 +1,9 @@
 #!/usr/bin/env python3
-"""Writes the tables of the pages that follow from the crates: python3 docs/tables.py, or with --check compares alone.
+"""Writes the tables in the pages that are derived from the crates: python3 docs/tables.py; --check only compares them.
 
-The tables of crates in ARCHITECTURE.md, one for each layer, come from crates.txt and from the first line of each crate,
-and the longest chain of crates from crates.txt. Each stands between two comments that name it. In crates.txt a layer
-begins with a line `## TITLE: WHAT IT IS.`, and a comment right above a crate belongs to that crate."""
+The tables of crates in ARCHITECTURE.md, one for each layer, are made from crates.txt and the first sentence of each
+crate, and the longest chain of crates from crates.txt. Each of the two is between a pair of comments that name it. In
+crates.txt a layer begins with a line `## TITLE: WHAT IT IS.`, and a comment right above a crate is about that crate."""
 import dataclasses
 import functools
 import pathlib
@@ -25,14 +25,14 @@ class Layer:
 
 @dataclasses.dataclass
 class Crates:
-    """The layers of crates.txt, and what each crate stands on, in the order of the file."""
+    """The layers of crates.txt, and the crates on which each crate depends, in the order of the file."""
 
     layers: list[Layer]
     below: dict[str, list[str]]
 
 
 def read_crates() -> Crates:
-    """Reads crates.txt, and checks that each crate is in a layer, behind all of ours that it stands on."""
+    """Read crates.txt, and check that each crate is in a layer, after all of our crates on which it depends."""
     made = Crates([], {})
     note = ""
     lines = (TOP / "crates.txt").read_text().splitlines()
@@ -46,7 +46,7 @@ def read_crates() -> Crates:
             name = head.split()[0]
             early = [other for other in stands.split() if other in ours and other not in made.below]
             if early or not made.layers:
-                sys.exit(f"crates.txt: {name} is in no layer, or before {' '.join(early)}, on which it stands")
+                sys.exit(f"crates.txt: {name} is in no layer, or before {' '.join(early)}, on which it depends")
             made.layers[-1].notes[name] = note
             made.below[name] = stands.split()
         note = line.removeprefix("# ") if line.startswith("# ") else ""
@@ -54,7 +54,7 @@ def read_crates() -> Crates:
 
 
 def first_line(name: str) -> str:
-    """What a crate says of itself: the first sentence of the comment at its head."""
+    """Return a crate's own description: the first sentence of the comment at its head."""
     source = TOP / "crates" / name / "src"
     root = source / "lib.rt" if (source / "lib.rt").exists() else source / "main.rt"
     told = re.match(r"(?://! ?(?:.+)\n)+", root.read_text())
@@ -65,7 +65,7 @@ def first_line(name: str) -> str:
 
 
 def chain_of(crates: dict[str, list[str]]) -> list[str]:
-    """The longest list of crates of which each stands on the one before."""
+    """Return the longest list of crates in which each depends on the one before."""
 
     @functools.cache
     def upto(name: str) -> tuple[str, ...]:
@@ -88,7 +88,7 @@ def row_of(name: str, note: str, crates: dict[str, list[str]]) -> str:
 
 
 def tables(crates: Crates) -> str:
-    """A heading, a sentence and a table for each layer."""
+    """Return a heading, a sentence and a table for each layer."""
     parts = []
     for layer in crates.layers:
         rows = [row_of(name, note, crates.below) for name, note in layer.notes.items()]
@@ -98,13 +98,13 @@ def tables(crates: Crates) -> str:
 
 
 def renewed(page: str) -> str:
-    """The page with its tables as the crates have them."""
+    """Return the page with its tables brought up to date."""
     crates = read_crates()
     parts = {"crates": tables(crates), "chain": ", ".join(f"`{name}`" for name in chain_of(crates.below)) + "."}
     for name, text in parts.items():
         begin, end = f"<!-- {name} -->\n", f"\n<!-- end of {name} -->"
         if page.count(begin) != 1 or page.count(end) != 1:
-            sys.exit(f"{PAGE}: the comments that name {name} must stand once")
+            sys.exit(f"{PAGE}: each of the two comments that name {name} must occur exactly once")
         page = page.partition(begin)[0] + begin + text + end + page.partition(end)[2]
     return page
 
@@ -114,7 +114,7 @@ def main(words: list[str]) -> int:
     new = renewed(page)
     if words == ["--check"]:
         if page != new:
-            print(f"{PAGE} is not what the crates say: run docs/tables.py")
+            print(f"{PAGE} is not up to date with the crates: run docs/tables.py")
         return int(page != new)
     PAGE.write_text(new)
     return 0

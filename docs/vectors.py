@@ -1,9 +1,9 @@
 #!/usr/bin/env python3
-"""Makes clients/vectors.json: what clients in any language must agree on, as docs/worked_blob.py computes it.
+"""Makes clients/vectors.json: test vectors for clients in any language, computed by docs/worked_blob.py.
 
 vectors.py           prints the vectors
 vectors.py --write   writes them to clients/vectors.json
-vectors.py --check   compares clients/vectors.json with what it would write, but for inputs of some megabytes
+vectors.py --check   computes them again and compares clients/vectors.json, except for inputs of some megabytes
 """
 import json
 import pathlib
@@ -18,13 +18,13 @@ LARGEST = 16_777_216
 GENERATORS = {"counting": "byte i is i modulo 251", "zeros": "each byte is 0"}
 MARK = b"\0walrus list \0\0\1"
 FORMATS = (1, 2)
-LONG = {1: [100_000, LARGEST - 1, LARGEST], 3: [1_000_003], 33: [LARGEST]}  # further lengths, by f
-SHORT = 1_000_003  # `--check` computes what is no longer than this
-SHOWN = 64  # a symbol of at most so many bytes stands in full, and else its digest
+LONG = {1: [100_000, LARGEST - 1, LARGEST], 3: [1_000_003], 33: [LARGEST]}  # additional lengths, by f
+SHORT = 1_000_003  # `--check` computes the vectors of inputs up to this length
+SHOWN = 64  # a symbol of at most this many bytes is given in full, a longer one by its digest
 
 
 def made(told):
-    """The bytes of an input."""
+    """Return the bytes that an input describes."""
     if "hex" in told:
         return bytes.fromhex(told["hex"])
     size = told["length"]
@@ -51,7 +51,7 @@ def opening(encoded, axis, index, cross):
 
 
 def openings(encoded):
-    """Of the first, the last and a middle place, in rows and in columns: the path of the last has zero entries."""
+    """Return openings at the first, the last and a middle place, of both axes. The last one's path has zero entries."""
     last = len(encoded.rows) - 1
     places = [(0, 0, last), (0, last, 0), (1, last, last), (1, last // 2, 1)]
     return [opening(encoded, *place) for place in places]
@@ -69,7 +69,7 @@ def blob_vector(faults, told):
 
 
 def list_vector(faults, told):
-    """A file that is a list: it has more bytes than a blob, or begins with the mark."""
+    """Return the vector of a file that is stored as a list: it is longer than a blob, or begins with the mark."""
     file = made(told)
     pieces = [file[place:place + LARGEST] for place in range(0, len(file), LARGEST)]
     named, formats = [[Encoded(faults, piece, form).identifier for form in FORMATS] for piece in pieces], {}
@@ -88,7 +88,7 @@ def bundle_vector(faults, members):
 
 
 def blob_inputs():
-    """No byte, one, a symbol less and more, about each bound where symbols grow, and long ones: f, and the input."""
+    """Yield f and an input: empty, one byte, lengths around each bound at which symbols grow, and long ones."""
     yield 1, {"hex": worked_blob.WORKED_BLOB.hex()}
     for faults in (1, 2, 3, 7, 33):
         cells = (faults + 1) * (2 * faults + 1)
@@ -120,7 +120,7 @@ MADE = {"blobs": (blob_inputs, blob_vector), "lists": (list_inputs, list_vector)
 
 
 def written():
-    """The whole text, an entry on each line; what each key means stands in clients/README.md."""
+    """Return the whole text, one entry a line; clients/README.md explains the keys."""
     keys = {"generators": json.dumps(GENERATORS)}
     for key, (inputs, vector) in MADE.items():
         keys[key] = "[\n" + ",\n".join(json.dumps(vector(*given)) for given in inputs()) + "\n]"
@@ -128,7 +128,7 @@ def written():
 
 
 def differing(kept):
-    """Whether the inputs of what was kept are other ones, or what was made of a short one differs."""
+    """Return the first difference in words, or nothing: other inputs, or another vector for a short input."""
     for key, (inputs, vector) in MADE.items():
         given, found = list(inputs()), kept[key]
         if [(of["faults"], of.get("input", of.get("members"))) for of in found] != given:
@@ -144,7 +144,7 @@ def main(words):
         PLACE.write_text(written(), encoding="utf-8")
     elif words == ["--check"]:
         fault = differing(json.loads(PLACE.read_text(encoding="utf-8")))
-        return f"{PLACE}: {fault}; docs/vectors.py --write makes it" if fault else 0
+        return f"{PLACE}: {fault}; docs/vectors.py --write renews it" if fault else 0
     elif words:
         return __doc__
     else:

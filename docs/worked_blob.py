@@ -1,8 +1,8 @@
 #!/usr/bin/env python3
-"""Writes the numbers of the worked blob of docs/FORMATS.md, by an implementation of its own over hashlib.
+"""Computes the numbers of the worked blob in docs/FORMATS.md, independently of the program, by hashlib alone.
 
-worked_blob.py                  writes the numbers
-worked_blob.py --page FILE      tells which of their lines are missing in FILE
+worked_blob.py                  prints the numbers
+worked_blob.py --page FILE      prints those of their lines that are missing in FILE
 worked_blob.py --check PROGRAM  compares identifiers and envelopes, in both formats, with those of PROGRAM, and the
                                 worked bundle and image
 """
@@ -14,8 +14,8 @@ from operator import xor
 
 WORKED_BLOB = bytes.fromhex("000100020003000400050006")
 MEMBERS = [bytes.fromhex("aabb"), bytes.fromhex("cc")]  # of the worked bundle
-BEACON = bytes(range(32))  # of the draws that are shown
-# What is compared, with its f: no padding, no byte, a byte too many, and levels of odd length in the trees.
+BEACON = bytes(range(32))  # of the draws that are printed
+# The blobs that are compared, with f: no padding, no byte, a byte too many, and levels of odd length in the trees.
 COMPARED = [(1, WORKED_BLOB), (1, b""), (1, WORKED_BLOB + b"\7"), (2, bytes(range(100))), (3, b"walrus" * 99), (10, b"\1")]
 
 
@@ -42,18 +42,18 @@ def inverse(word):
 
 @cache
 def coefficient(count, place, point):
-    """By how much the word at a place, one of so many from 0 on, counts in the word at another point."""
+    """Return the Lagrange coefficient of the word at `place`, one of the first `count`, for the word at `point`."""
     return reduce(times, (times(point ^ other, inverse(place ^ other)) for other in range(count) if other != place), 1)
 
 
 def doubled(words, ones):
-    """Each word of a number that has one in every 16 bits, times x; `ones` has the same number of words, each 1."""
+    """Multiply each 16-bit word packed in `words` by x; `ones` has the same number of words, each equal to 1."""
     high = words >> 15 & ones
     return (words ^ high << 15) << 1 ^ high * 0x100B
 
 
 def multiples_of(symbol):
-    """A symbol as a number, times each power of x below 16."""
+    """Return a symbol as a number, multiplied by x**0 to x**15."""
     ones = int.from_bytes(b"\0\1" * (len(symbol) // 2), "big")
     multiples = [int.from_bytes(symbol, "big")]
     while len(multiples) < 16:
@@ -62,7 +62,7 @@ def multiples_of(symbol):
 
 
 def extend(symbols, count):
-    """The codeword of so many symbols that begins with these."""
+    """Return the codeword of `count` symbols that begins with these symbols."""
     codeword, multiples = list(symbols), list(map(multiples_of, symbols))
     for point in range(len(symbols), count):
         scales = [coefficient(len(symbols), place, point) for place in range(len(symbols))]
@@ -71,9 +71,9 @@ def extend(symbols, count):
     return codeword
 
 
-@lru_cache(1)  # both formats have the same
+@lru_cache(1)  # the matrix is the same in both formats
 def columns_of(faults, blob):
-    """The columns of the extended matrix."""
+    """Return the columns of the extended matrix."""
     rows, columns, shards = faults + 1, 2 * faults + 1, 3 * faults + 1
     size = 2 * max(1, -(-len(blob) // (2 * rows * columns)))
     padded = blob.ljust(rows * columns * size, b"\0")
@@ -83,7 +83,7 @@ def columns_of(faults, blob):
 
 
 def levels_over(contents):
-    """The levels of a tree: the leaf digests of these contents first, the root alone last."""
+    """Return the levels of a Merkle tree: first the digests of the leaves, last the root alone."""
     levels = [[sha256(b"\0" + leaf).digest() for leaf in contents]]
     while len(levels[-1]) > 1:
         below = levels[-1] + [bytes(32)] * (len(levels[-1]) % 2)
@@ -92,7 +92,7 @@ def levels_over(contents):
 
 
 class Encoded:
-    """A blob in a format: its matrix, its roots, its identifier and its frames, each as a list of fields."""
+    """A blob encoded in a format: matrix, roots, identifier and frames. A frame is a list of its fields."""
 
     def __init__(self, faults, blob, encoding):
         columns = columns_of(faults, blob)
@@ -127,7 +127,7 @@ def tree_lines(name, contents):
 
 
 def opening_of(encoded, axis, index, cross):
-    """The frame of an opening of this sliver by the one that crosses, without its path, and the path."""
+    """Return the frame of an opening of a sliver at its crossing with sliver `cross`, without the path, and the path."""
     line = [row[cross] for row in encoded.rows] if axis == 0 else encoded.rows[cross]
     siblings = [(level + [bytes(32)])[index >> height ^ 1] for height, level in enumerate(levels_over(line)[:-1])]
     numbers = [number(axis, 1), number(index, 2), number(cross, 2), number(len(line[index]), 4)]
@@ -135,7 +135,7 @@ def opening_of(encoded, axis, index, cross):
 
 
 def draw_lines(encoded, shard, count):
-    """The text and the digest of draws for a shard, and how it answers the last of them."""
+    """Yield the text and digest of a shard's draws, and its answer to the last of them."""
     for place in range(count):
         text = [b"\4", BEACON, encoded.identifier, number(shard, 2), number(place, 2)]
         drawn = sha256(b"".join(text)).digest()
@@ -163,7 +163,7 @@ def worked_lines(encoding):
 
 
 def laid_out(faults, members, size):
-    """The index of these members, with symbols of this size, and all columns that it and they fill."""
+    """Return the index of a bundle with symbols of this size, and all columns that index and members fill."""
     column = (faults + 1) * size
     index, first = [number(len(members), 2)], -(-(2 + 6 * len(members)) // column)
     for member in members:
@@ -175,7 +175,7 @@ def laid_out(faults, members, size):
 
 
 def bundled(faults, members):
-    """The index, the columns and the rows of a bundle, each row a list of symbols of the least size."""
+    """Return the index, columns and rows of a bundle with the smallest symbols that fit; a row is a list of symbols."""
     size = 2
     while len(laid_out(faults, members, size)[1]) > 2 * faults + 1:
         size += 2
@@ -194,14 +194,14 @@ def bundle_lines():
 
 
 def worked_image():
-    """The image of secondary sliver 0 of the worked blob: one record, and the closed gate."""
+    """Return the image of secondary sliver 0 of the worked blob: one record, and a closed gate."""
     encoded = Encoded(1, WORKED_BLOB, 1)
     body = encoded.sliver(1, 0)[-1]
     return [b"\1", b"\1", encoded.identifier, b"\2", number(len(body), 4), body, b"\0"]
 
 
 def check_further(program):
-    """The worked bundle, a member of it from two of its slivers, and the worked image."""
+    """Compare the worked bundle, a member of it read from two slivers, and the worked image with the program's."""
     def ask(*words, data):
         return subprocess.run([program, *words], input=data, stdout=subprocess.PIPE, check=True).stdout
 
@@ -217,7 +217,7 @@ def check_further(program):
         (ask("unpack", data=image), f"{worked.identifier.hex()} secondary 4\n".encode()),
     ]:
         if came != wanted:
-            sys.exit(f"{program}: {came.hex()} came, and not {wanted.hex()}")
+            sys.exit(f"{program}: {came.hex()} was written instead of {wanted.hex()}")
     print("the worked bundle, its member and the worked image are the same")
 
 
@@ -228,7 +228,7 @@ def check(program):
         for command, expected in [("id", encoded.identifier.hex().encode() + b"\n"), ("encode", frames)]:
             words = [program, command, str(faults), "--format", str(encoding)]
             if subprocess.run(words, input=blob, stdout=subprocess.PIPE, check=True).stdout != expected:
-                sys.exit(f"{' '.join(words)}: another answer than this script's for {len(blob)} bytes")
+                sys.exit(f"{' '.join(words)}: the output differs from this script's for {len(blob)} bytes")
     print(f"{len(COMPARED)} blobs have the same identifiers and envelopes, in both formats")
 
 

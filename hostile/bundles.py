@@ -1,4 +1,4 @@
-"""Bundles of small blobs, and what is read of them: the layout, slivers and openings that hold, and each answer."""
+"""A second implementation of bundles: layout, valid slivers and openings, and the answers of `bundle` and `member`."""
 import bisect
 import hashlib
 import struct
@@ -15,7 +15,7 @@ Answer = tuple[int, bytes]
 
 
 def lines_of(length: int, column: int) -> int:
-    """How many columns of this size so many bytes fill."""
+    """Return the number of columns of `column` bytes that `length` bytes fill."""
     return -(-length // column)
 
 
@@ -25,14 +25,14 @@ def columns_used(faults: int, lengths: Sequence[int], size: int) -> int:
 
 
 def symbol_size(faults: int, lengths: Sequence[int]) -> int:
-    """The least even number, at least 2, with which index and members fill no more than 2f+1 columns."""
+    """Return the smallest even size of a symbol, at least 2, such that index and members fit into 2f+1 columns."""
     fits = lambda half: columns_used(faults, lengths, 2 * half) <= 2 * faults + 1  # noqa: E731
     halves = range(1, sum(lengths) + 4096)
     return 2 * halves[bisect.bisect_left(halves, True, key=fits)]
 
 
 def index_of(faults: int, lengths: Sequence[int], size: int) -> bytes:
-    """The number of members, and for each its first column and its length."""
+    """Return the index: the number of members, and the first column and length of each."""
     column = (faults + 1) * size
     text, first = struct.pack(">H", len(lengths)), lines_of(2 + ENTRY.size * len(lengths), column)
     for length in lengths:
@@ -42,7 +42,7 @@ def index_of(faults: int, lengths: Sequence[int], size: int) -> bytes:
 
 
 def bundle_of(faults: int, members: Sequence[bytes]) -> Answer:
-    """What is written for these members: the source block that has them in its columns, or why there is none."""
+    """Return status and output for these members: the source block with them in its columns, or why there is none."""
     if len(members) > 2 * faults:
         return 4, b"too many members\n"
     lengths = [len(member) for member in members]
@@ -75,7 +75,7 @@ class Metadata:
 
 
 def read_metadata(payload: bytes) -> Metadata | None:
-    """The metadata that a payload is, if it is one."""
+    """Return the metadata that a payload spells, or None if it is no metadata."""
     if payload[:1] not in (b"\x10", b"\x14") or (payload[0] == 0x14 and payload[1:2] != b"\2"):
         return None
     place = forms.numbers_at(payload)
@@ -92,14 +92,14 @@ def read_metadata(payload: bytes) -> Metadata | None:
 
 
 def sliver_in(payload: bytes, identifier: bytes, index: int) -> bytes | None:
-    """The bytes of a secondary sliver of this index, where the payload is such a frame of the identifier."""
+    """Return the bytes of the secondary sliver with this index, if the payload is such a frame of the identifier."""
     front = forms.target(forms.SLIVER, identifier, SECONDARY, index)
     content = payload[40:]
     return content if payload == front + forms.number(len(content), 4) + content and len(content) <= LARGEST else None
 
 
 def opening_in(payload: bytes, identifier: bytes, index: int) -> tuple[int, bytes, list[bytes]] | None:
-    """Cross, symbol and path of an opening of this secondary sliver, where the payload is such a frame."""
+    """Return cross, symbol and path of an opening of this secondary sliver, if the payload is such a frame."""
     if not payload.startswith(forms.target(forms.OPENING, identifier, SECONDARY, index)) or len(payload) < 43:
         return None
     cross, size = struct.unpack_from(">HI", payload, 36)
@@ -111,7 +111,7 @@ def opening_in(payload: bytes, identifier: bytes, index: int) -> tuple[int, byte
 
 
 def leads_to(place: int, leaf: bytes, siblings: Sequence[bytes]) -> bytes:
-    """The root to which a path leads."""
+    """Return the root to which a path leads."""
     digest = hashlib.sha256(b"\0" + leaf).digest()
     for sibling in siblings:
         pair = sibling + digest if place % 2 else digest + sibling
@@ -120,7 +120,7 @@ def leads_to(place: int, leaf: bytes, siblings: Sequence[bytes]) -> bytes:
 
 
 def recovered(m: Metadata, identifier: bytes, index: int, payloads: Sequence[bytes]) -> bytes | None:
-    """The sliver that the first held openings of f+1 crosses give, where it has its root."""
+    """Return the sliver that the first valid openings of f+1 crosses give, if it has the right root."""
     known: dict[int, bytes] = {}
     for payload in payloads:
         found = opening_in(payload, identifier, index) if index < m.shards else None
@@ -136,7 +136,7 @@ def recovered(m: Metadata, identifier: bytes, index: int, payloads: Sequence[byt
 
 
 def column_of(m: Metadata, identifier: bytes, index: int, payloads: Sequence[bytes]) -> bytes | None:
-    """The bytes of a column, of the first held sliver or else from openings."""
+    """Return the bytes of a column, from the first valid sliver or else from openings."""
     for payload in payloads:
         content = sliver_in(payload, identifier, index)
         if content is not None and len(content) == m.column and index < m.shards:
@@ -147,7 +147,7 @@ def column_of(m: Metadata, identifier: bytes, index: int, payloads: Sequence[byt
 
 
 class Missing(Exception):
-    """A column that is not there."""
+    """A column that cannot be read."""
 
 
 def joined(m: Metadata, identifier: bytes, wanted: range, payloads: Sequence[bytes]) -> bytes:
@@ -162,7 +162,7 @@ def joined(m: Metadata, identifier: bytes, wanted: range, payloads: Sequence[byt
 
 
 def read_index(m: Metadata, text: bytes, count: int) -> list[tuple[int, int]] | None:
-    """The first column and the length of each member, where the index is that of a bundle with these lengths."""
+    """Return the first column and length of each member, if this is the index of a bundle with these lengths."""
     entries = [ENTRY.unpack_from(text, 2 + ENTRY.size * place) for place in range(count)]
     lengths = [length for _, length in entries]
     is_own = symbol_size(m.faults, lengths) == m.size and index_of(m.faults, lengths, m.size) == text
@@ -186,7 +186,7 @@ def member_in(m: Metadata, identifier: bytes, number: int, payloads: Sequence[by
 
 
 def member_of(identifier: bytes, number: int, payloads: Sequence[bytes]) -> Answer:
-    """What is written for a member; two metadata of one identifier are not looked for, as nobody has found any."""
+    """Return status and output for a member. Two metadata with one identifier, a hash collision, are not looked for."""
     of_it = [payload for payload in payloads if read_metadata(payload) and forms.identifier_of(payload) == identifier]
     found = read_metadata(of_it[0]) if of_it else None
     if found is None:

@@ -1,6 +1,6 @@
-"""Calls the library with an input, in this process, where running.py starts the program; and what must hold of calls.
+"""Calls the library with an input in this process, as running.py starts the program; and further checks of calls.
 
-A call that crashes or takes too long ends its process: so calls stand in a child, and its parent says in which input.
+A call that crashes or takes too long ends its process. So calls are made in a child, and the parent reports the input.
 """
 import contextlib
 import ctypes
@@ -15,13 +15,13 @@ import checks
 from running import Limits, Outcome, Zeros, own_memory, taken
 
 NO_ROOM = 7
-ROOM = 1 << 20  # where no more is known of what is written
+ROOM = 1 << 20  # bytes of room for an output of unknown size
 FILL = 0xA5
 ENDED = "the library ended its process"
 
 
 class Caller:
-    """Calls a library, with room for its output that is used again and again."""
+    """Calls a library, and uses the room for its output again and again."""
 
     def __init__(self, path):
         library = ctypes.CDLL(path)
@@ -33,7 +33,7 @@ class Caller:
         self.room = bytearray(ROOM)
 
     def run(self, words, content, limits):
-        """One call, and a second one where the first needs more room than there is."""
+        """Make one call, and a second one if the first needs more room than there is."""
         begun = time.process_time()
         status, written, needed = self.into(self.room, words, content, limits)
         if status == NO_ROOM and needed > len(self.room):
@@ -44,7 +44,7 @@ class Caller:
         return Outcome(status, text, b"", None, seconds, seconds > limits.seconds)
 
     def into(self, room, words, content, limits):
-        """One call with this room: the status, how much was written, and how much would have been."""
+        """Make one call with this room; return the status, the bytes that were written, and the bytes that it needs."""
         told = b"".join(word + b"\0" for word in words)
         written, needed = ctypes.c_uint64(), ctypes.c_uint64()
         output = (ctypes.c_char * len(room)).from_buffer(room)
@@ -59,7 +59,7 @@ class Caller:
 
 @contextlib.contextmanager
 def placed(content):
-    """Where an input lies, and its size. The zeros of a long one are pages that take no memory."""
+    """Yield the address and size of an input. The zeros of a long one are pages that take no memory."""
     if not isinstance(content, Zeros):
         told = ctypes.c_char_p(content)
         yield ctypes.cast(told, ctypes.c_void_p), len(content)
@@ -75,7 +75,7 @@ def placed(content):
 
 
 def small_room(trial, random):
-    """Room for a part: it has the front of the whole text, and what is needed is told."""
+    """Too little room gets a prefix of the whole text, and the needed size is reported."""
     length = len(trial.whole.text)
     size = random.choice([0, 1, 7, max(0, length - 1), length, length + 1, random.randrange(length + 1)])
     room = bytearray([FILL]) * (size + 8)
@@ -90,13 +90,13 @@ def small_room(trial, random):
 
 
 def beside_program(trial, random):
-    """The program says the same."""
+    """The program gives the same answer."""
     outcome = trial.beside.run(trial.words, trial.content, trial.limits)
     return None if checks.same(outcome, trial.whole) else f"the program ends with status {outcome.status}, or says more"
 
 
 def coded(trial, random):
-    """Its code is one of its status, or none where that is 0."""
+    """The code of the answer is one of its status; it is 0 for status 0."""
     code = trial.runner.code(trial.whole.status, trial.whole.text, len(trial.whole.text))
     return None if code // 100 == trial.whole.status else f"code {code} with status {trial.whole.status}"
 
@@ -105,8 +105,8 @@ CHECKS = [checks.same_again, small_room, small_room, beside_program, checks.fron
 
 
 def in_child(work):
-    """What `work` gives in a child, and nothing; or nothing, and how far it was when it ended with which status. `work`
-    is given what it calls with each number that it comes to."""
+    """Run `work` in a child; it is given a function, which it calls with each number that it comes to. Returns the
+    result and None; or, if the child failed, None and a pair: the last such number and the child's exit status."""
     place, (source, sink) = mmap.mmap(-1, 8), os.pipe()
     child = os.fork()
     if child == 0:

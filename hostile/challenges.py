@@ -1,4 +1,4 @@
-"""What is drawn for a shard, and what is said of its answer: enough to judge `challenge` and `verify` exactly."""
+"""A second implementation of a shard's draws and of the verdict on its answer, to judge `challenge` and `verify`."""
 from dataclasses import dataclass
 
 import forms
@@ -7,7 +7,7 @@ DRAW = 4  # the first byte of a draw's text
 
 
 def draw(beacon, identifier, shards, shard, number):
-    """The axis and the place of a draw."""
+    """Return the axis and the place of a draw."""
     text = bytes([DRAW]) + beacon + identifier + forms.number(shard, 2) + forms.number(number, 2)
     drawn = forms.digest(text)
     return drawn[0] & 1, forms.value_of(drawn[3:5]) % shards
@@ -15,14 +15,14 @@ def draw(beacon, identifier, shards, shard, number):
 
 @dataclass
 class Committed:
-    """What a frame of metadata says of a blob."""
+    """What a frame of metadata commits to."""
     shards: int
     size: int      # of a symbol
-    second: bool   # it is of format two
+    second: bool   # whether it is of format two
     pairs: list
 
     def held(self, axis, shard):
-        """The index of the sliver of this axis that a shard holds, and the shard that holds the one of an index."""
+        """Return the index of the sliver of this axis that a shard holds, or the shard that holds an index."""
         return self.shards - 1 - shard if axis == forms.SECONDARY and self.second else shard
 
     def root(self, axis, index):
@@ -30,7 +30,7 @@ class Committed:
 
 
 def committed_by(metadata):
-    """What a frame says that is metadata."""
+    """Return what a frame of metadata commits to."""
     place = forms.numbers_at(metadata)
     faults, length = forms.value_of(metadata[place:place + 2]), forms.value_of(metadata[place + 2:place + 10])
     cells = 2 * (faults + 1) * (2 * faults + 1)
@@ -39,7 +39,7 @@ def committed_by(metadata):
 
 
 def read_claim(payload, identifier):
-    """The axis and index of the target, the cross, the symbol and the path of an opening of this blob, if it is one."""
+    """Return axis and index of the target, cross, symbol and path, if the payload is an opening of this blob."""
     if payload[:33] != bytes([forms.OPENING]) + identifier or len(payload) < 43:
         return None
     axis, index, cross, size = (forms.value_of(payload[place:place + width])
@@ -52,7 +52,7 @@ def read_claim(payload, identifier):
 
 
 def is_held(committed, axis, index, cross, symbol, path):
-    """Whether an opening holds."""
+    """Return whether an opening is valid."""
     levels = (committed.shards - 1).bit_length()
     if max(index, cross) >= committed.shards or len(symbol) != committed.size or len(path) != 32 * levels:
         return False
@@ -64,7 +64,7 @@ def is_held(committed, axis, index, cross, symbol, path):
 
 
 def verdict_of(metadata, identifier, shard, beacon, count, payloads):
-    """The status and the text of `verify`, where this metadata is the first of the identifier."""
+    """Return the status and text of `verify`; this must be the first metadata of the identifier."""
     committed = committed_by(metadata)
     if shard >= committed.shards:
         return 4, b"no shard\n"
@@ -79,21 +79,22 @@ def verdict_of(metadata, identifier, shard, beacon, count, payloads):
 
 
 def answer_fault(metadata, identifier, shard, beacon, count, outcome, payloads, subject):
-    """What is wrong with an answer of `challenge`. What a shard holds is known where its writer is, the subject."""
+    """Return what is wrong with an answer of `challenge`. What a shard holds is known only if the writer is known, the
+    subject."""
     if outcome.status == 0:
         envelopes, end = forms.split(outcome.text)
         if end != len(outcome.text) or any(sender != shard for sender, _ in envelopes):
             return "no envelopes from the shard"
         shown = [payload for _, payload in envelopes]
         told = verdict_of(metadata, identifier, shard, beacon, count, shown)
-        return None if told == (0, b"accepted\n") else f"an answer of which {told[1].decode().strip()} is to be said"
+        return None if told == (0, b"accepted\n") else f"an answer on which {told[1].decode().strip()} is the verdict"
     texts = [b"no primary\n", b"no secondary\n"]
     if shard >= committed_by(metadata).shards:
         texts = [b"no shard\n"]
     if outcome.status != 4 or outcome.text not in texts:
-        return "another answer than the command has"
+        return "an answer that the command does not have"
     if subject is None or len(texts) == 1:
         return None
     missing = [text for axis, text in enumerate(texts)
                if subject.sliver(axis, subject.held(axis, shard)) not in payloads]
-    return None if missing[:1] == [outcome.text] else "what is said of the slivers"
+    return None if missing[:1] == [outcome.text] else "a wrong answer about the slivers"

@@ -1,6 +1,6 @@
-"""What must hold of an input beside its whole answer: failing sinks and sources, little memory, the same again.
+"""Further checks of an input, besides its plain answer: failing sinks and sources, little memory, the same again.
 
-Each check runs the program once more and gives what is wrong, or nothing.
+Each check runs the program once more and returns what is wrong, or None.
 """
 import fcntl
 import math
@@ -13,7 +13,7 @@ import forms
 from local import by_blob
 from running import Limits, Zeros
 
-PIPE = 4096  # the room of a small pipe
+PIPE = 4096  # the capacity of a small pipe, in bytes
 
 
 def same(outcome, whole):
@@ -27,7 +27,7 @@ def same_again(trial, random):
 
 
 def full_sink(trial, random):
-    """Nothing can be written."""
+    """The output cannot be written at all."""
     sink = os.open("/dev/full", os.O_WRONLY)
     try:
         outcome = trial.run(trial.words, trial.content, trial.limits, sink=sink)
@@ -37,7 +37,7 @@ def full_sink(trial, random):
 
 
 def small_sink(trial, random):
-    """A file that has room for a part."""
+    """The output is a file that has room for a part."""
     length = len(trial.whole.text)
     room = random.choice([0, 1, 7, max(0, length - 1), length, random.randrange(length + 1)])
     outcome = trial.run(trial.words, trial.content, Limits(trial.limits.memory, trial.limits.seconds, room))
@@ -45,7 +45,7 @@ def small_sink(trial, random):
 
 
 def closed_pipe(trial, random):
-    """A pipe that nobody reads, for a program that a broken pipe ends where it does not see to that."""
+    """The output is a pipe without a reader, and SIGPIPE has its default action, which the program must prevent."""
     source, sink = os.pipe()
     os.close(source)
     try:
@@ -56,7 +56,7 @@ def closed_pipe(trial, random):
 
 
 def closing_pipe(trial, random):
-    """A pipe whose reader goes after some bytes."""
+    """The output is a pipe whose reader closes it after some bytes."""
     length = len(trial.whole.text)
     count = random.choice([1, 7, 8, random.randrange(length + 1), max(1, length - PIPE - 1)])
     source, sink = os.pipe()
@@ -66,9 +66,9 @@ def closing_pipe(trial, random):
     text = read_up_to(source, count, trial.limits.seconds)
     os.close(source)
     outcome = trial.end(begun)
-    if outcome.status == 7 and count < length:  # it may have written more than was read
+    if outcome.status == 7 and count < length:  # the program may have written more than was read
         return trial.cut_fault(outcome, text, len(text)) or (None if len(text) == count else "less than was to be read")
-    least = max(0, length - PIPE)  # so much was read if it could write the whole
+    least = max(0, length - PIPE)  # at least this much was read, if all could be written
     if not trial.whole.text.startswith(text) or len(text) < least:
         return f"{len(text)} bytes of another answer were read from a pipe, with status {outcome.status}"
     return None if outcome.status == trial.whole.status else f"status {outcome.status} where a pipe was read"
@@ -85,7 +85,7 @@ def read_up_to(source, count, seconds):
 
 
 def failing_source(trial, random):
-    """An input that cannot be read: a folder, or one that is closed."""
+    """The input cannot be read: it is a folder, or closed."""
     source = os.open("/", os.O_RDONLY) if random.random() < 0.7 else None
     try:
         outcome = trial.run(trial.words, b"", trial.limits, source=source)
@@ -93,13 +93,13 @@ def failing_source(trial, random):
         if source is not None:
             os.close(source)
     if trial.takes_nothing():
-        return None if same(outcome, trial.whole) else f"status {outcome.status} where no input is taken"
+        return None if same(outcome, trial.whole) else f"status {outcome.status} where no input is read"
     return None if (outcome.status, outcome.text, outcome.errors) == (6, b"", b"") else (
         f"status {outcome.status} and {len(outcome.text)} bytes where the input cannot be read")
 
 
 def in_pieces(trial, random):
-    """An input of single bytes, one for each read."""
+    """The input arrives byte by byte, one for each read."""
     if len(trial.content) > 2000:
         return None
     ours, theirs = socket.socketpair(socket.AF_UNIX, socket.SOCK_SEQPACKET)
@@ -110,21 +110,21 @@ def in_pieces(trial, random):
         for place in range(len(trial.content)):
             ours.send(trial.content[place:place + 1])
     except OSError:
-        pass  # it takes no more
+        pass  # the program reads no more
     ours.close()
     outcome = trial.end(begun)
     return None if same(outcome, trial.whole) else f"another answer to an input in pieces, with status {outcome.status}"
 
 
 def is_front(command, text):
-    """Whether a command may leave this of its text where memory runs out: whole lines, or whole envelopes."""
+    """Return whether a command may leave this prefix of its output when memory runs out: whole lines or envelopes."""
     if command == "challenge":
         return forms.split(text)[1] == len(text)
     return command in ("replay", "gateway") and text.endswith(b"\n")
 
 
 def small_memory(trial, random):
-    """Little memory: the whole answer, or status 5 and what may be written then."""
+    """With little memory there is the whole answer, or status 5 with such output as a command may leave then."""
     more = int(2 ** random.uniform(12, math.log2(trial.limits.memory)))
     memory = min(trial.least_memory + more - more % PIPE, trial.limits.memory)
     outcome = trial.run(trial.words, trial.content, Limits(memory, trial.limits.seconds))
@@ -136,7 +136,7 @@ def small_memory(trial, random):
     if outcome.text and not (trial.whole.text.startswith(outcome.text) and is_front(trial.command, outcome.text)):
         return f"{len(outcome.text)} bytes were written {about}"
     taken = trial.command == "serve" and outcome.taken
-    return f"status 5 behind {outcome.taken} bytes of input {about}" if taken else None
+    return f"status 5 after {outcome.taken} bytes of input {about}" if taken else None
 
 
 def front(trial, random):
@@ -151,7 +151,7 @@ def front(trial, random):
 
 
 def way_back(trial, random):
-    """What was encoded is read back from any f+1 primary slivers."""
+    """An encoded blob is read back from any f+1 primary slivers."""
     if trial.command != "encode" or trial.whole.status != 0 or isinstance(trial.content, Zeros):
         return None
     envelopes, _ = forms.split(trial.whole.text)

@@ -1,4 +1,4 @@
-"""The code of walrus over the field of 65,536 words, as far as answers are judged by it."""
+"""The erasure code of walrus, over the field of 65,536 words, as far as judging answers needs it."""
 import functools
 from collections.abc import Mapping, Sequence
 
@@ -6,7 +6,7 @@ POLYNOMIAL, WORDS = 0x1100B, 1 << 16
 
 
 def powers_of_two() -> list[int]:
-    """The powers of the word 2, which are all words but zero."""
+    """Return the powers of the word 2, which are all words except zero."""
     powers, power = [], 1
     for _ in range(WORDS - 1):
         powers.append(power)
@@ -30,7 +30,7 @@ def inverse(word: int) -> int:
 
 @functools.lru_cache(maxsize=4096)
 def coefficients(known: tuple[int, ...], wanted: int) -> tuple[int, ...]:
-    """By how much each known place of a codeword counts at the wanted one."""
+    """Return the coefficient of each known place of a codeword for the wanted place."""
     found = []
     for place in known:
         product = 1
@@ -42,7 +42,7 @@ def coefficients(known: tuple[int, ...], wanted: int) -> tuple[int, ...]:
 
 
 def symbol_at(known: Mapping[int, bytes], wanted: int) -> bytes:
-    """The symbol at a place of the codeword that has these symbols at as many places as its dimension."""
+    """Return the symbol at a place of the codeword that has these symbols, as many as its dimension."""
     if wanted in known:
         return known[wanted]
     total = [0] * (len(next(iter(known.values()))) // 2)
@@ -53,6 +53,6 @@ def symbol_at(known: Mapping[int, bytes], wanted: int) -> bytes:
 
 
 def extended(symbols: Sequence[bytes], count: int) -> list[bytes]:
-    """The codeword of so many symbols that begins with these."""
+    """Return the codeword of `count` symbols that begins with these."""
     known = dict(enumerate(symbols))
     return [symbol_at(known, place) for place in range(count)]

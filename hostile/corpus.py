@@ -1,11 +1,11 @@
-"""What hostile inputs are made from: blobs as the program itself encodes them, and false writers."""
+"""The material of hostile inputs: blobs as the program itself encodes them, and those of false writers."""
 from dataclasses import dataclass, field, replace
 
 import forms
 from forms import PRIMARY, SECONDARY
 
-# f, the format and the number of bytes of each blob; two with one f, format and symbol size make a false writer. The
-# slivers of the longest take several pages.
+# f, the format and the number of bytes of each blob. Two blobs with the same f, format and size of symbols make a false
+# writer. The slivers of the longest take several pages.
 BLOBS = [(1, 1, 12), (1, 1, 9), (1, 1, 0), (1, 1, 40), (1, 1, 30000), (1, 2, 12), (1, 2, 11), (2, 1, 30), (2, 1, 25),
          (2, 1, 64), (2, 2, 30), (2, 2, 29), (2, 2, 40000)]
 # f, the format and the lengths of the members of each bundle.
@@ -14,12 +14,12 @@ BUNDLES = [(1, 1, [2, 1]), (1, 1, [1, 2]), (1, 2, [16, 16]), (1, 1, [300]), (1, 
 
 
 class Refused(Exception):
-    """The program did not do what the corpus needs."""
+    """The program did not give a result that the corpus needs."""
 
 
 @dataclass
 class Subject:
-    """A blob with all that is said of it, or what a false writer says of none."""
+    """A blob with its metadata, slivers and codewords; or those of a false writer, which are of no blob."""
     faults: int
     format: int
     identifier: bytes
@@ -28,9 +28,9 @@ class Subject:
     secondary: list
     rows: list           # the codewords of the first rows, each a list of symbols
     columns: list        # those of the first columns
-    blob: bytes = None   # none where the writer is false
+    blob: bytes = None   # None if the writer is false
     proofs: list = field(default_factory=list)
-    bodies: dict = field(default_factory=dict, init=False)  # those of openings that were made
+    bodies: dict = field(default_factory=dict, init=False)  # those of openings, once they were made
 
     @property
     def shards(self):
@@ -38,12 +38,12 @@ class Subject:
 
     @property
     def length(self):
-        """The blob's length, as the metadata tells it."""
+        """The blob's length according to the metadata."""
         place = forms.numbers_at(self.metadata) + 2
         return forms.value_of(self.metadata[place:place + 8])
 
     def held(self, axis, shard):
-        """The index of the sliver of this axis that a shard holds."""
+        """Return the index of the sliver of this axis that a shard holds."""
         return self.shards - 1 - shard if axis == SECONDARY and self.format == 2 else shard
 
     def content(self, axis, index):
@@ -56,7 +56,7 @@ class Subject:
         return [self.sliver(axis, index) for axis in (PRIMARY, SECONDARY) for index in range(self.shards)]
 
     def needed(self, axis):
-        """How many openings recover a sliver."""
+        """Return the number of openings that recover a sliver."""
         return 2 * self.faults + 1 if axis == PRIMARY else self.faults + 1
 
     def body(self, axis, index, cross):
@@ -81,7 +81,7 @@ def nonzero(random, size):
 
 
 def subject_of(faults, format_number, blob, identifier, envelopes):
-    """The blob whose envelopes were written by `encode`."""
+    """Return the subject of a blob whose envelopes `encode` wrote."""
     shards, columns = 3 * faults + 1, 2 * faults + 1
     slivers = {PRIMARY: [None] * shards, SECONDARY: [None] * shards}
     for _, payload in envelopes[1:]:
@@ -97,18 +97,18 @@ def subject_of(faults, format_number, blob, identifier, envelopes):
 
 
 def root_place(subject, axis, index):
-    """Where this root stands in the frame of the metadata."""
-    shard = subject.held(axis, index)  # the shard that holds a sliver, and the sliver that it holds, are told alike
+    """Return the place of this root in the frame of the metadata."""
+    shard = subject.held(axis, index)  # `held` is its own inverse: this is the shard that holds the sliver
     return forms.numbers_at(subject.metadata) + 10 + 64 * shard + 32 * axis
 
 
 def with_metadata(subject, metadata):
-    """The same slivers and openings under another metadata, which a false writer makes."""
+    """Return a false writer, with the same slivers and openings under other metadata."""
     return replace(subject, metadata=metadata, identifier=forms.identifier_of(metadata), blob=None, proofs=[])
 
 
 def mixed(subject, other, axis, index):
-    """A false writer, who commits to one sliver of another blob."""
+    """Return a false writer that commits to one sliver of another blob."""
     place, other_place = root_place(subject, axis, index), root_place(other, axis, index)
     metadata = bytearray(subject.metadata)
     metadata[place:place + 32] = other.metadata[other_place:other_place + 32]
@@ -122,7 +122,7 @@ def mixed(subject, other, axis, index):
 
 
 def with_length(subject, length):
-    """A false writer, who tells another length."""
+    """Return a false writer that gives another length."""
     place = forms.numbers_at(subject.metadata) + 2
     metadata = subject.metadata[:place] + forms.number(length, 8) + subject.metadata[place + 8:]
     return with_metadata(subject, metadata)
@@ -132,7 +132,7 @@ class Corpus:
     """All subjects, made with the program."""
 
     def __init__(self, ask, random):
-        """`ask(words, content)` is the program's answer: a status and a text."""
+        """`ask(words, content)` returns the program's answer, a status and a text."""
         self.ask = ask
         self.honest = [self._blob(random, faults, number, nonzero(random, size)) for faults, number, size in BLOBS]
         self.bundles = [self._bundle(random, *row) for row in BUNDLES]
@@ -155,12 +155,12 @@ class Corpus:
         return text
 
     def _bundle(self, random, faults, format_number, lengths):
-        """A bundle as the program makes it."""
+        """Return a bundle as the program makes it."""
         stream = forms.join([(0, nonzero(random, length)) for length in lengths])
         return self._blob(random, faults, format_number, self._must(["bundle", str(faults)], stream, 0))
 
     def _forged(self, random, bundle):
-        """An honest writer's blob that differs from a bundle in the front of its index."""
+        """Return an honest writer's blob that differs from a bundle at the beginning of its index."""
         size = 2 * max(1, -(-bundle.length // (2 * (bundle.faults + 1) * (2 * bundle.faults + 1))))
         place = random.randrange(min(size, 14))
         changed = bytes([bundle.blob[place] ^ random.choice([1, 1, 2, 3, 255])])
@@ -184,7 +184,7 @@ class Corpus:
                         yield self._with_proof(mixed(subject, other, axis, 1), 1 - axis)
 
     def _look_at_all(self):
-        """Each honest blob is read back, and each false writer is found out."""
+        """Check that each honest blob is read back, and that each false writer is detected."""
         for subject in self.subjects:
             text = b"reject\n" if subject.blob is None else subject.blob
             told = [subject.metadata] + (subject.proofs or subject.slivers())
@@ -197,7 +197,7 @@ class Corpus:
                 self._must(["check", subject.identifier.hex()], stream, 3)
 
     def _with_proof(self, writer, axis):
-        """The false writer with a proof of this axis, as the program makes it; or without, where it happens to fit."""
+        """Return the false writer with the proofs of this axis that the program makes, if there are any."""
         for index in range(writer.shards):
             stream = forms.join([(0, payload) for payload in [writer.metadata] + writer.openings(axis, index)])
             status, text = self.ask(["recover", writer.identifier.hex(), forms.AXES[axis], str(index)], stream)

@@ -1,4 +1,4 @@
-"""Envelopes, frames and trees, as far as hostile inputs are made of them."""
+"""Envelopes, frames and Merkle trees, as far as hostile inputs need them."""
 import hashlib
 
 METADATA, SLIVER, OPENING, PROOF, METADATA_TWO = range(0x10, 0x15)
@@ -8,7 +8,7 @@ REGISTER_ENTRY, ACK_ENTRY, ATTEST_ENTRY = range(0x40, 0x43)
 KINDS = [METADATA, SLIVER, OPENING, PROOF, METADATA_TWO, READ, SYMBOL, ACK, ATTEST, FORGET, ANSWER, CLASH,
          REGISTER_ENTRY, ACK_ENTRY, ATTEST_ENTRY]
 
-GET = 0x43  # the first byte of what asks a gateway for a range; it is no frame
+GET = 0x43  # the first byte of a request to a gateway for a range, which is no frame
 
 PRIMARY, SECONDARY = 0, 1
 AXES = ["primary", "secondary"]
@@ -47,7 +47,7 @@ def join(envelopes):
 
 
 def split(stream):
-    """The whole envelopes that a stream begins with, each a sender and a payload, and the place behind them."""
+    """Return the whole envelopes at the beginning of a stream, as senders and payloads, and the place behind them."""
     envelopes, place = [], 0
     while len(stream) - place >= 7 and stream[place] == 0x57:
         end = place + 7 + value_of(stream[place + 3:place + 7])
@@ -63,7 +63,7 @@ def digest(text):
 
 
 def levels_of(leaves):
-    """The digests of a tree, from those of its leaves up to its root."""
+    """Return the levels of digests of a tree, from those of its leaves up to its root."""
     levels = [[digest(b"\0" + leaf) for leaf in leaves]]
     while len(levels[-1]) > 1:
         level = levels[-1] + [bytes(32)] * (len(levels[-1]) % 2)
@@ -77,7 +77,7 @@ def root_of(leaves):
 
 
 def path_of(leaves, place):
-    """The sibling digests from this leaf upwards."""
+    """Return the sibling digests from this leaf upwards."""
     siblings = []
     for level in levels_of(leaves)[:-1]:
         siblings.append(level[place ^ 1])
@@ -86,12 +86,12 @@ def path_of(leaves, place):
 
 
 def numbers_at(metadata):
-    """Where f, the length and the roots stand in a frame of metadata."""
+    """Return the place of f in a frame of metadata; the length and the roots follow it."""
     return 2 if metadata[0] == METADATA_TWO else 1
 
 
 def identifier_of(metadata):
-    """The identifier that a frame of metadata has."""
+    """Return the identifier that commits to a frame of metadata."""
     place = numbers_at(metadata)
     pairs = metadata[place + 10:]
     root = root_of([pairs[start:start + 64] for start in range(0, len(pairs), 64)])
@@ -118,7 +118,7 @@ def get(identifier, start, size):
 
 
 def desk_room(faults):
-    """The longest payload that a shard looks at."""
+    """Return the length of the longest payload that a shard looks at."""
     symbols = (faults + 1) * (2 * faults + 1)
     size = -(-16777216 // symbols)
     size += size % 2

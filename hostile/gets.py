@@ -1,4 +1,4 @@
-"""A gateway's gets: a list of pairs of identifier and blob, the last used first, and for each miss what `read` says."""
+"""A second implementation of `gateway`: a list of kept blobs, the last used first; on a miss the answer of `read`."""
 import forms
 
 
@@ -13,7 +13,7 @@ def found(blob, start, size):
 
 
 def run_of(capacity, payloads, ask):
-    """The status and the text of a run over these payloads. `ask(words, content)` is the program's answer to `read`."""
+    """Return status and text of a run over these payloads. `ask(words, content)` returns the program's answer."""
     kept, text, replies = [], b"", []
     for payload in payloads:
         if not is_get(payload):

@@ -1,4 +1,4 @@
-"""Images of journals: the part that a frame has, the record of a change, and what an image holds."""
+"""A second implementation of journals' images: the part in a frame, the record of a change, the parts in an image."""
 import struct
 from collections.abc import Iterable
 
@@ -17,7 +17,7 @@ def record(kind: int, identifier: bytes, part: int = 0, content: bytes = b"", ga
 
 
 def is_proof(payload: bytes) -> bool:
-    """Whether the payload is a frame with as many opening bodies as it says."""
+    """Return whether the payload is the frame of a proof, with as many openings' bodies as it declares."""
     if len(payload) < 38:
         return False
     axis, index, count = struct.unpack_from(">BHH", payload, 33)
@@ -34,7 +34,7 @@ def is_proof(payload: bytes) -> bool:
 
 
 def part_of(payload: bytes) -> Part | None:
-    """The identifier, the part and the bytes that a frame has to be stored; none where no keep takes them."""
+    """Return the identifier, the part and the bytes that are stored for a frame, or None if no keep accepts it."""
     kind = payload[:1]
     if kind in (b"\x10", b"\x14"):
         return (forms.identifier_of(payload), 0, payload[1:]) if read_metadata(payload) else None
@@ -47,7 +47,7 @@ def part_of(payload: bytes) -> Part | None:
 
 
 def image_of(room: int, payloads: Iterable[bytes]) -> Answer:
-    """What is written for these payloads: the records of their parts, each once, and the closed gate."""
+    """Return status and output for these payloads: the records of their parts, each once, and a closed gate."""
     records, tail, held = [], 0, set()
     for found in map(part_of, payloads):
         if found is None or found[:2] in held:
@@ -63,7 +63,7 @@ def image_of(room: int, payloads: Iterable[bytes]) -> Answer:
 
 
 def change(held: dict[tuple[bytes, int], int], kind: int, identifier: bytes, part: int, size: int) -> bool:
-    """Makes the change of a record; whether it is one, and lawful."""
+    """Apply a record's change to what is held; return whether the record is well-formed and lawful."""
     least, most = (1, LARGEST) if kind == PUT else (0, 0)
     if not PUT <= kind <= DROP_ALL or part > (0 if kind == DROP_ALL else 3) or not least <= size <= most:
         return False
@@ -77,7 +77,7 @@ def change(held: dict[tuple[bytes, int], int], kind: int, identifier: bytes, par
 
 
 def unpacked(image: bytes) -> Answer:
-    """What is written of an image: a line for each part that is held, in the order of identifiers and parts."""
+    """Return status and output for an image: a line for each part that is held, by identifier and part."""
     held: dict[tuple[bytes, int], int] = {}
     place = 0
     while not image or image[place] == 1:

@@ -1,7 +1,7 @@
-"""What is wrong with an answer, judged without doing the program's work again.
+"""Finds what is wrong with an answer, without doing the program's work again.
 
-A status and a text must be of those that the command has. What rests on a digest is judged by whose identifier it is:
-an honest writer's blob is read as that blob or not at all, and a false writer's is never read.
+Status and text must be among those of the command. What depends on a digest is judged by the identifier's writer: an
+honest writer's blob is read as that blob or not at all, and a false writer's blob is never read.
 """
 import hashlib
 import re
@@ -29,7 +29,7 @@ CHECKED = re.compile(rb"no proof\n|wrong count\n|repeated\n|bad opening (?:0|[1-
 
 
 def collision_fault(text):
-    """A collision of SHA-256, or none."""
+    """Return what is wrong with the line of a collision. A true one is reported, too: none has ever been found."""
     found = COLLISION.fullmatch(text)
     if not found:
         return "the line of a collision has another form"
@@ -47,9 +47,9 @@ def short_fault(text, needed):
 
 
 def long_fault(command, outcome):
-    """What is wrong with what is said of an input that is too long."""
+    """Return what is wrong with the answer to an input that is too long."""
     if outcome.status != 9 or outcome.took_other(LIMITS[command] + 1):
-        return f"what is said of a long input, of which {outcome.taken} bytes were taken"
+        return f"a wrong answer to a long input, of which {outcome.taken} bytes were read"
     return None if command == "serve" or outcome.text == b"too long\n" else "too long, with another text"
 
 
@@ -58,7 +58,7 @@ def told(answer):
 
 
 def exact_fault(content, outcome, answer):
-    """What is wrong where `answer(payloads)` is the one that is right."""
+    """Return what is wrong with an answer if the right one is `answer(payloads)`."""
     envelopes, end = forms.split(content)
     wanted = answer([payload for _, payload in envelopes]) if end == len(content) else (8, b"malformed at %d\n" % end)
     return None if (outcome.status, outcome.text) == wanted else f"another answer than {told(wanted)}"
@@ -68,7 +68,7 @@ LOOK = object()
 
 
 def is_metadata(payload, identifier):
-    """Whether the payload is a frame of metadata that has this identifier."""
+    """Return whether the payload is a frame of metadata with this identifier."""
     if not payload[:1] or payload[0] not in (forms.METADATA, forms.METADATA_TWO):
         return False
     place = forms.numbers_at(payload)
@@ -79,7 +79,7 @@ def is_metadata(payload, identifier):
 
 @dataclass
 class View:
-    """What is known of an identifier: its writer, and a metadata in the input."""
+    """What is known about an identifier: its writer, and its first metadata in the input."""
     identifier: bytes
     subject: object
     metadata: bytes
@@ -101,7 +101,7 @@ class Judge:
         self.corpus = corpus
 
     def fault(self, words, content, outcome):
-        """What is wrong with a run that had all the memory, input and output that it wanted."""
+        """Return what is wrong with a run that had all the memory, input and output that it needed."""
         if outcome.late:
             return "it takes too long"
         if outcome.errors:
@@ -109,16 +109,16 @@ class Judge:
         if outcome.status < 0:
             return f"signal {-outcome.status} ends it"
         if not is_text(words):
-            return None if (outcome.status, outcome.text) == (11, b"") else "the words are no text, which is not said"
+            return None if (outcome.status, outcome.text) == (11, b"") else "words that are not UTF-8 are not refused"
         values, options = without_options(words)
         if outcome.status == 2:
             if outcome.text != USAGE or outcome.took_other(0):
-                return "usage with another text, or with an input that was taken"
-            return "the words have a meaning" if values is not None and is_row(values, options) else None
+                return "usage with another text, or after input was read"
+            return "words that match a command are refused" if values is not None and is_row(values, options) else None
         if values is None:
             return None if outcome.status in (0, 3, 4, 8, 9, 10) else "another status than the command has"
         if not is_row(values, options):
-            return "the words mean nothing, which is not said"
+            return "words that match no command are not refused"
         return self._answer_fault(values, options, content, outcome)
 
     def _answer_fault(self, values, options, content, outcome):
@@ -126,9 +126,9 @@ class Judge:
         if len(content) > LIMITS[command] and command != "sample":
             return long_fault(command, outcome)
         if outcome.status == 9:
-            return "what is not too long is called so"
+            return "an input that is not too long is refused as too long"
         if command not in ("sample", "serve") and outcome.took_other(len(content)):
-            return f"{outcome.taken} bytes of {len(content)} were taken"
+            return f"{outcome.taken} bytes of {len(content)} were read"
         return getattr(self, f"_{command}_fault")(values[1:], options, bytes(content), outcome)
 
     def _id_fault(self, values, options, content, outcome):
@@ -152,22 +152,22 @@ class Judge:
         return None
 
     def _view(self, word, content):
-        """Whose identifier it is, and which metadata the input has for it."""
+        """Return the writer of an identifier, and the first metadata that the input has for it."""
         identifier = bytes.fromhex(word.decode())
         found = [payload for _, payload in forms.split(content)[0] if is_metadata(payload, identifier)]
         return View(identifier, self.corpus.by_identifier.get(identifier), found[0] if found else None)
 
     def _stream_fault(self, view, content, outcome):
-        """What is wrong with an answer that any command has which reads envelopes; `LOOK` where it is none of these."""
+        """Return what is wrong with an answer that any command may give that reads envelopes, or `LOOK` for others."""
         _, end = forms.split(content)
         malformed = b"malformed at %d\n" % end if end < len(content) else None
         if malformed or outcome.status == 8:
-            return None if (outcome.status, outcome.text) == (8, malformed) else "what is said of the form of the input"
+            return None if (outcome.status, outcome.text) == (8, malformed) else "a wrong answer about the input's form"
         if outcome.status == 10:
             return collision_fault(outcome.text)
         missing = (outcome.status, outcome.text) == (4, b"no metadata\n")
         if missing or view.metadata is None:
-            return None if missing and view.metadata is None else "what is said of the metadata"
+            return None if missing and view.metadata is None else "a wrong answer about the metadata"
         return LOOK
 
     def _read_fault(self, values, options, content, outcome):
@@ -215,7 +215,7 @@ class Judge:
         return None
 
     def _proof_fault(self, view, proof, front):
-        """A proof that was made is one."""
+        """Return what is wrong with a proof that the program made."""
         if view.is_honest:
             return "a proof against an honest writer"
         if not proof.startswith(front):
@@ -255,7 +255,7 @@ class Judge:
         if outcome.status == 8:
             return refusal_fault(schedule, sure, outcome.text)
         if schedule is NO_JSON:
-            return "what is no JSON was replayed"
+            return "a text that is no JSON was replayed"
         lines = outcome.text.split(b"\n")
         if lines.pop():
             return "the last line has no end"
@@ -271,7 +271,7 @@ class Judge:
 
     def _sample_fault(self, values, options, content, outcome):
         if outcome.took_other(0):
-            return "input was taken"
+            return "input was read"
         return None if (outcome.status, outcome.text) == (0, SUMMARY) else "another summary than that of each sample"
 
     def _serve_fault(self, values, options, content, outcome):
@@ -302,7 +302,7 @@ class Judge:
         if end < len(content) or outcome.status == 8:
             malformed = 8, b"malformed at %d\n" % end
             fits = end < len(content) and (outcome.status, outcome.text) == malformed
-            return None if fits else "what is said of the form of the input"
+            return None if fits else "a wrong answer about the input's form"
         status, text = gets.run_of(int(values[0]), [payload for _, payload in envelopes], self.corpus.ask)
         if status == 10:
             return collision_fault(outcome.text.split(b"\n")[-2] + b"\n")

@@ -1,4 +1,4 @@
-"""Whether answers about a blob rest on that blob alone: its requests served alone, and what is kept of it."""
+"""Checks that answers about a blob depend on that blob alone: on its requests, and on what was kept of it."""
 import forms
 from running import Zeros
 from serving import answers_of
@@ -7,11 +7,11 @@ from words import without_options
 PARTS = (forms.METADATA, forms.METADATA_TWO, forms.SLIVER, forms.PROOF)
 CLAIMS = {forms.ACK: forms.ACK_ENTRY, forms.ATTEST: forms.ATTEST_ENTRY}
 ENTRIES = (forms.REGISTER_ENTRY, forms.ACK_ENTRY, forms.ATTEST_ENTRY)
-WANTS = (6, 7, 10)  # of pages, of memory, of entries
+WANTS = (6, 7, 10)  # codes for a lack of pages, of memory, of entries
 
 
 def named(payload):
-    """The identifier that a payload names, or that its metadata has; of what is no frame any will do."""
+    """Return the identifier that a payload names, or that its metadata has; for a malformed frame, any bytes do."""
     kind = payload[0] if payload else None
     if kind in (forms.METADATA, forms.METADATA_TWO):
         return forms.identifier_of(payload) if len(payload) > 12 else None
@@ -21,12 +21,12 @@ def named(payload):
 
 
 def code_of(frames):
-    """The code of an answer of one frame."""
+    """Return the code of an answer that is one frame, or None."""
     return frames[0][1] if len(frames) == 1 and frames[0][0] == forms.ANSWER else None
 
 
 def kept(turns, identifier, shard):
-    """The entries that were made, in their order, and then what is held: metadata, slivers, and the proof."""
+    """Return the entries that were made, in order, and then what is held: metadata, slivers, and the proof."""
     entries, held = [], {}
     for payload, frames in turns:
         kind, code = payload[0] if payload else None, code_of(frames)
@@ -42,14 +42,15 @@ def kept(turns, identifier, shard):
 
 
 def served(trial, payloads):
-    """What is answered to these payloads, or nothing where serving ends otherwise."""
+    """Return the answers to these payloads, or None if serving does not end as it should."""
     outcome = trial.run(trial.words, forms.join([(7, payload) for payload in payloads]), trial.limits)
     answers, rest = answers_of(forms.split(outcome.text)[0])
     return answers if (outcome.status, outcome.errors, rest) == (0, b"", []) else None
 
 
 def by_blob(trial, random):
-    """One blob's requests have the same answers without those about others, and its last one behind what is kept."""
+    """A blob's requests have the same answers without those about other blobs; and so has its last request, if it
+    follows only what is kept of the blob."""
     if trial.command != "serve" or trial.whole.status not in (0, 8) or isinstance(trial.content, Zeros):
         return None
     payloads = [payload for _, payload in forms.split(trial.content)[0]]
@@ -60,10 +61,10 @@ def by_blob(trial, random):
     identifier = random.choice(names)
     chosen = [(payload, frames) for payload, frames in turns if named(payload) == identifier]
     if any(code_of(frames) in WANTS for _, frames in chosen):
-        return None  # what room there is rests on all blobs
+        return None  # the room that is left depends on all blobs
     if served(trial, [payload for payload, _ in chosen]) != [frames for _, frames in chosen]:
         return "other answers without the requests about other blobs"
     shard = int(without_options(trial.words)[0][2])
     payload, frames = chosen[-1]
     last = served(trial, kept(chosen[:-1], identifier, shard) + [payload])
-    return None if last and last[-1] == frames else "another answer behind what is kept of the blob"
+    return None if last and last[-1] == frames else "another answer after what is kept of the blob"

@@ -1,4 +1,4 @@
-"""Makes inputs hostile: bytes, cuts, lengths, kinds, numbers at their limits."""
+"""Makes inputs hostile: changed bytes, truncations, wrong lengths and kinds, numbers at their limits."""
 import forms
 
 LIMITS = [0, 1, 2, 3, 4, 5, 9, 10, 11, 15, 16, 64, 65, 66, 127, 128, 255, 256, 332, 333, 334, 998, 999, 1000, 1001,
@@ -7,7 +7,7 @@ LIMITS = [0, 1, 2, 3, 4, 5, 9, 10, 11, 15, 16, 64, 65, 66, 127, 128, 255, 256, 3
 
 
 def limit_number(random, size, old):
-    """A number at a limit, or beside the old one, that has so many bytes."""
+    """Return a number of `size` bytes, at a limit or next to the old one."""
     chosen = random.choice([limit for limit in LIMITS if limit < 256**size] + [old + 1, old - 1] * 4)
     return forms.number(chosen % 256**size, size)
 
@@ -75,7 +75,7 @@ def exchange_kind(random, payload):
 
 
 def set_field(random, payload):
-    """A number of the frame at a limit of its."""
+    """Set a number of the frame to a limit."""
     fields = [(place, size) for place, size in forms.FIELDS.get(payload[:1] and payload[0], [])
               if place + size <= len(payload)]
     if not fields:
@@ -86,7 +86,7 @@ def set_field(random, payload):
 
 
 def set_any_field(random, payload):
-    """Any bytes of the frame as a number at a limit."""
+    """Set any bytes of the frame, as a number, to a limit."""
     size = random.choice([1, 2, 4, 8])
     if len(payload) < size:
         return payload
@@ -137,14 +137,14 @@ def change_sender(random, envelopes, corpus):
 
 
 def add_foreign(random, envelopes, corpus):
-    """A payload from somewhere else."""
+    """Add a payload from somewhere else."""
     payload = random.choice([random.choice(corpus.payloads), random.randbytes(random.randrange(60)), b""])
     place = random.randrange(len(envelopes) + 1)
     return envelopes[:place] + [(random.randrange(4), payload)] + envelopes[place:]
 
 
 def exchange_identifier(random, envelopes, corpus):
-    """One frame under the identifier of another blob."""
+    """Give one frame the identifier of another blob."""
     changed = list(envelopes)
     place = random.randrange(len(changed))
     sender, payload = changed[place]
@@ -168,7 +168,7 @@ def change_envelopes(random, envelopes, corpus):
 # Changes of a stream.
 
 def change_length(random, stream):
-    """The length of one envelope, and not its payload."""
+    """Change the length of one envelope, but not its payload."""
     envelopes, _ = forms.split(stream)
     if not envelopes:
         return change_text(random, stream)
@@ -179,7 +179,7 @@ def change_length(random, stream):
 
 
 def change_stream(random, stream):
-    """Most streams stay whole, so that what they carry is looked at."""
+    """Change some streams. Most stay whole, so that the program looks at their contents."""
     chance = random.random()
     if chance < 0.75:
         return stream

@@ -1,4 +1,4 @@
-"""What is wrong with the report of a schedule, or with what is said of a text that is none."""
+"""Finds what is wrong with the report of a schedule, or with the refusal of a text that is no schedule."""
 import json
 import re
 
@@ -31,7 +31,7 @@ NO_JSON = object()
 
 
 def line_fault(line, corpus):
-    """What is wrong with a line: its form, or that it tells of a blob what its writer did not."""
+    """Return what is wrong with a line: its form, or a content that is not the blob of the honest writer."""
     if not LINES.fullmatch(line):
         return "a line of another form"
     words = line.decode().split(" ")
@@ -63,9 +63,9 @@ def refusal_fault(schedule, sure, text):
     if not found:
         return "a refusal of another form"
     if schedule is NO_JSON:
-        return None if text == b"not json\n" else "what is no JSON was looked at"
+        return None if text == b"not json\n" else "a text that is no JSON was read on"
     if text == b"not json\n":
-        return "JSON is refused as none" if sure else None
+        return "JSON is refused as no JSON" if sure else None
     if found[1] and not 1 <= int(found[1]) <= len(events_in(schedule)):
         return "no event has this number"
     return None
@@ -76,7 +76,7 @@ def no_constant(name):
 
 
 def read_json(content):
-    """The value, or `NO_JSON` where it surely is none; and whether it surely is some."""
+    """Return the value, or `NO_JSON` if this surely is no JSON; and whether the verdict is sure."""
     try:
         text = content.decode()
         value = json.loads(text, parse_constant=no_constant)
@@ -87,7 +87,7 @@ def read_json(content):
 
 
 def depth_of(text):
-    """How deep brackets nest at most, those in strings counted too."""
+    """Return how deep brackets nest at most; those in strings count too."""
     depth = most = 0
     for character in text:
         if character in "[{":

@@ -1,4 +1,4 @@
-"""Runs the program once, with its input, its output and its limits as told."""
+"""Runs the program once, with a given input, output and limits."""
 import contextlib
 import os
 import resource
@@ -9,22 +9,22 @@ from dataclasses import dataclass
 
 MEBIBYTE = 1 << 20
 PATIENCE = 10
-SPARE = 64 * MEBIBYTE  # address space that this process keeps where it takes the limits of a run itself
-OWN = object()  # the runner's own file
+SPARE = 64 * MEBIBYTE  # address space that this process must have left while it applies a run's limits to itself
+OWN = object()  # stands for the runner's own file
 
 
 @dataclass
 class Outcome:
-    """What came of a run."""
+    """The result of a run."""
     status: int      # the exit status, or the number of the signal that ended it, negative
     text: bytes      # what was written to standard output
     errors: bytes    # what was written to standard error
-    taken: int       # how many bytes of the input were taken; None where that is not known, as of a call
-    seconds: float   # of the processor
-    late: bool       # it took too long
+    taken: int       # the number of bytes of input that were read; None if that is not known, as for a call
+    seconds: float   # of processor time
+    late: bool       # whether it took too long
 
     def took_other(self, count):
-        """Whether it is known that another number of bytes was taken."""
+        """Return whether it is known that another number of bytes than `count` was read."""
         return self.taken not in (None, count)
 
 
@@ -32,18 +32,18 @@ class Outcome:
 class Limits:
     """What a run may use."""
     memory: int              # bytes of address space
-    seconds: float           # of the processor; on a busy machine it may take PATIENCE times as long
-    room: int = None         # bytes that a file may have, where it is told
+    seconds: float           # of processor time; as real time it may take PATIENCE times as long
+    room: int = None         # the most bytes of a file, or None for any
 
     def rows(self):
-        """The kinds of limits with their sizes; that of memory is the last."""
+        """Return the kinds of limits with their sizes; that of memory is the last."""
         room = [] if self.room is None else [(resource.RLIMIT_FSIZE, self.room)]
         return room + [(resource.RLIMIT_AS, self.memory)]
 
 
 @dataclass
 class Zeros:
-    """A long input: zero bytes behind a front, so many in all."""
+    """A long input: a front and then zero bytes, `size` bytes in all."""
     front: bytes
     size: int
 
@@ -55,7 +55,7 @@ class Zeros:
 
 
 class Runner:
-    """Runs a program, with files in memory for its input and output that are used again and again."""
+    """Runs a program, and uses the same files in memory for its input and output again and again."""
 
     def __init__(self, program):
         self.program = program
@@ -63,19 +63,19 @@ class Runner:
         self.source, self.sink, self.errors = (os.memfd_create(name) for name in ("source", "sink", "errors"))
 
     def run(self, words, content, limits, **places):
-        """One run; the places are those of `begin`."""
+        """Run once and return the outcome; `places` are arguments of `begin`."""
         return self.end(self.begin(words, content, limits, **places), limits)
 
     def begin(self, words, content, limits, source=OWN, sink=OWN, plain_pipe=False):
-        """Begins a run; `end` waits for it. Its input is the content, or comes from the descriptor `source`. Its output
-        is kept, or goes to the descriptor `sink`. `plain_pipe`: a broken pipe ends it, unless it sees to that."""
+        """Begin a run; `end` waits for it. The input is the content, or comes from the descriptor `source`. The output
+        is kept, or goes to the descriptor `sink`. With `plain_pipe` SIGPIPE has its default action."""
         self._fill(content)
         source = self.source if source is OWN else source
         sink = self.sink if sink is OWN else sink
         return self._start(words, source, sink, limits, plain_pipe)
 
     def end(self, started, limits):
-        """What came of a run that was begun."""
+        """Wait for a run that was begun, kill it if it hangs, and return its outcome."""
         process, begun = started
         hangs = not ended_in_time(process, begun + PATIENCE * limits.seconds)
         if hangs:
@@ -102,10 +102,10 @@ class Runner:
         return start(words, places, limits, plain_pipe), begun
 
     def _spawn(self, words, places, limits, plain_pipe):
-        """A run that has its limits from this process, which takes them for the moment: that is much the cheaper."""
+        """Start a run that inherits its limits from this process, which applies them meanwhile: cheaper than a fork."""
         actions = [(os.POSIX_SPAWN_CLOSE, place) if descriptor is None else (os.POSIX_SPAWN_DUP2, descriptor, place)
                    for descriptor, place in places]
-        plain = [signal.SIGPIPE] if plain_pipe else []  # Python ignores it, and SIGXFSZ, and so does what it starts
+        plain = [signal.SIGPIPE] if plain_pipe else []  # Python ignores it and SIGXFSZ, and its children inherit that
         with taken(limits):
             return os.posix_spawn(self.program, [self.program] + words, {}, file_actions=actions, setsigdef=plain)
 
@@ -133,14 +133,14 @@ class Runner:
 
 
 def own_memory():
-    """The bytes of address space that this process has."""
+    """Return the bytes of address space that this process has."""
     with open("/proc/self/statm", "rb") as told:
         return int(told.read().split()[0]) * resource.getpagesize()
 
 
 @contextlib.contextmanager
 def taken(limits):
-    """This process has the limits of a run, as far as they are soft."""
+    """Apply the limits of a run to this process during the block, as soft limits."""
     before = [(kind, resource.getrlimit(kind)) for kind, _ in limits.rows()]
     try:
         for (kind, size), (_, (_, hard)) in zip(limits.rows(), before):
@@ -166,7 +166,7 @@ def whole(descriptor):
 
 
 def least_memory(runner):
-    """The least limit of memory, in pages, at which the program starts and says how it is used."""
+    """Return the smallest memory limit in bytes, of whole pages, with which the program starts and prints its usage."""
     low, high = 0, 64 * MEBIBYTE // 4096
     while high - low > 1:
         middle = (low + high) // 2

@@ -1,4 +1,4 @@
-"""Schedules: stories of a network that may hold, then hostile keys, numbers, brackets and digits."""
+"""Schedules: plausible stories of a network, into which hostile keys, numbers, brackets and digits are put."""
 import copy
 import json
 
@@ -17,7 +17,7 @@ def shard(random, count):
 
 
 def replies(random, subject, count):
-    """What shards reply, true and false."""
+    """Return replies of shards, true and false."""
     said = [{"true": member, "at": random.choice(SIDES)} for member in shards_of(random, count)]
     for _ in range(random.choice([0, 0, 0, 1, 2])):
         said.insert(random.randrange(len(said) + 1), {"bytes": sent_bytes(random, subject).hex()})
@@ -25,7 +25,7 @@ def replies(random, subject, count):
 
 
 def sent_bytes(random, subject):
-    """What a shard or a writer sends: frames about the blob, some of them changed."""
+    """Return a frame about the blob, as a shard or writer sends it; some are changed."""
     axis, index = random.choice([PRIMARY, SECONDARY]), random.randrange(subject.shards)
     opening = subject.opening(axis, index, random.randrange(subject.needed(axis)))
     payload = random.choice([subject.metadata, subject.sliver(axis, index), opening] + subject.proofs * 2)
@@ -92,7 +92,7 @@ EVENTS = [register, register, write, write, send, send, ack, ack, ack, attest, r
 
 
 def stored(random, subject, count):
-    """A blob that is registered, stored and vouched for; one that is none is sent by a false writer."""
+    """Return events that register, store and acknowledge a blob; that of a false writer is sent and attested."""
     members = list(range(count))
     story = [register(random, subject, count)]
     if subject.blob is None:
@@ -105,7 +105,7 @@ def stored(random, subject, count):
 
 
 def handover(random, subject, count):
-    """A change of the epoch, in which shards recover and are ready."""
+    """Return events of an epoch change, in which shards recover and are ready."""
     fresh = random.randrange(count)
     heard = [{"true": member, "at": "now"} for member in range(count)]
     story = [{"do": "begin", "faulty": [], "stays": [member for member in range(count) if member != fresh]}]
@@ -115,7 +115,7 @@ def handover(random, subject, count):
 
 
 def honest_schedule(random, corpus):
-    """A schedule in range."""
+    """Return a schedule with all values in range."""
     faults = random.choice([1, 1, 1, 2])
     count = 3 * faults + 1
     subjects = random.sample([subject for subject in corpus.subjects if subject.faults == faults], 2)
@@ -143,7 +143,7 @@ HOSTILE_KEYS = ["f", "epoch", "faulty", "events", "format", "owners", "do", "id"
 
 
 def places_in(value, found):
-    """Every object and list in a value."""
+    """Return every object and list in a value."""
     if isinstance(value, (dict, list)):
         found.append(value)
         for item in value.values() if isinstance(value, dict) else value:
@@ -166,7 +166,7 @@ def hostile_value(random, old):
 
 
 def change_values(random, schedule):
-    """One value exchanged, one key lost, added or renamed."""
+    """Exchange one value; or remove, add or rename one key."""
     place = random.choice(places_in(schedule, []))
     if isinstance(place, list):
         if place and random.random() < 0.7:
@@ -211,7 +211,7 @@ def change_tokens(random, text):
 
 
 def long_texts(corpus):
-    """Schedules with as many events or replies as there may be, and one more."""
+    """Yield schedules with the largest number of events or replies that is allowed, and with one more."""
     for count in (65536, 65537):
         yield b'{"f":1,"epoch":0,"faulty":[],"events":[' + b",".join([b'{"do":"finish"}'] * count) + b"]}"
     for count in (4096, 4097):

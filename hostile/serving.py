@@ -1,4 +1,4 @@
-"""What is wrong with the answers of a shard: the kinds of frames, and the codes that each request may have."""
+"""Finds what is wrong with a shard's answers: the kinds of frames, and the codes that each request may have."""
 from dataclasses import dataclass
 
 import forms
@@ -22,13 +22,13 @@ class Desk:
     corpus: object
 
     def honest(self, identifier):
-        """The honest writer of this blob, if there is one."""
+        """Return the honest writer of this blob, if there is one."""
         subject = self.corpus.by_identifier.get(identifier)
         return subject if subject and subject.blob is not None else None
 
 
 def answers_of(envelopes):
-    """The frames that answer each request; the last of them may lack their end."""
+    """Return the frames that answer each request, and the frames after the last whole answer."""
     answers, frames = [], []
     for _, payload in envelopes:
         frames.append(payload)
@@ -39,7 +39,7 @@ def answers_of(envelopes):
 
 
 def code_fault(payload, desk_room, code, a, b):
-    """What is wrong with a code and its numbers for this request."""
+    """Return what is wrong with a code and its numbers for this request."""
     kind = payload[0] if payload else None
     if code not in CODES.get(kind, {9}):
         return f"the code {code} for a request of kind {kind}"
@@ -50,18 +50,18 @@ def code_fault(payload, desk_room, code, a, b):
     if code == 6 and not a > b:
         return "it is full, and needs no more than is free"
     if len(payload) > desk_room or (code, a) == (9, 7):
-        return None if (code, a, b, len(payload) > desk_room) == (9, 7, 0, True) else "what is said of a long payload"
+        return None if (code, a, b, len(payload) > desk_room) == (9, 7, 0, True) else "a wrong answer to a long payload"
     if code != 9:
         return None
     if kind is None or kind not in forms.KINDS:
-        return None if a == (1 if kind is None else 2) and b == 0 else "what is said of an unknown kind"
+        return None if a == (1 if kind is None else 2) and b == 0 else "a wrong answer to an unknown kind"
     further = [5] if kind not in CODES else [6] if kind in (forms.ACK_ENTRY, forms.ATTEST_ENTRY) else []
     fits = a in [1, 3, 4] + further and (0 < b < len(payload) if a == 3 else b == 0)
     return None if fits else f"the cause {a} and the place {b} for a request of kind {kind}"
 
 
 def frame_fault(frame, subject, shard):
-    """What is wrong with a frame that a shard gives of an honest writer's blob."""
+    """Return what is wrong with a frame of an honest writer's blob that a shard replies."""
     if frame[0] == forms.PROOF:
         return "a proof against an honest writer"
     if frame[0] == forms.SLIVER:
@@ -71,14 +71,14 @@ def frame_fault(frame, subject, shard):
         axis, index = frame[33], forms.value_of(frame[34:36])
         cross = subject.held(1 - axis, shard)
         if cross >= subject.needed(axis):
-            return None  # the corpus has the codewords of the first crosses alone
+            return None  # the corpus has only the codewords of the first crosses
         own = index < subject.shards and frame == subject.opening(axis, index, cross)
         return None if own else "another opening than the writer's"
     return None if frame == subject.metadata else "another metadata than the writer's"
 
 
 def put_fault(payload, code, desk):
-    """What is wrong with a code for a sliver or a proof of an honest writer's blob."""
+    """Return what is wrong with a code for a sliver or a proof of an honest writer's blob."""
     subject = desk.honest(payload[1:33])
     if subject is None or code not in (0, 2, 11) or payload[0] not in (forms.SLIVER, forms.PROOF):
         return None
@@ -94,7 +94,7 @@ def put_fault(payload, code, desk):
 
 
 def replies_fault(payload, frames, count, desk):
-    """What is wrong with the frames that a shard holds of a blob."""
+    """Return what is wrong with the frames of a blob in a shard's reply."""
     kinds, identifier = REPLIED[payload[0]], payload[1:33]
     places = [kinds.index(frame[0]) if frame[:1] and frame[0] in kinds else None for frame in frames]
     if count != len(frames) or None in places or places != sorted(set(places)):
@@ -110,7 +110,7 @@ def replies_fault(payload, frames, count, desk):
 
 
 def answer_fault(payload, frames, desk):
-    """What is wrong with the frames that answer one request."""
+    """Return what is wrong with the frames that answer one request."""
     end = frames[-1]
     if len(end) != 10 or end[0] != forms.ANSWER:
         return "an answer of another form"
@@ -126,7 +126,7 @@ def answer_fault(payload, frames, desk):
 
 
 def serve_fault(faults, shard, content, outcome, corpus):
-    """What is wrong with a run of `serve`."""
+    """Return what is wrong with a run of `serve`."""
     requests, end = forms.split(content)
     envelopes, written = forms.split(outcome.text)
     if written != len(outcome.text):
@@ -143,7 +143,7 @@ def serve_fault(faults, shard, content, outcome, corpus):
     if len(answers) != len(requests):
         return f"{len(answers)} answers to {len(requests)} requests"
     if outcome.status == 0 and outcome.took_other(len(content)):
-        return f"{outcome.taken} bytes of {len(content)} were taken"
+        return f"{outcome.taken} bytes of {len(content)} were read"
     desk = Desk(faults, shard, forms.desk_room(faults), corpus)
     for (_, payload), frames in zip(requests, answers):
         fault = answer_fault(payload, frames, desk)

@@ -1,4 +1,4 @@
-"""Makes the input of a fault smaller, as long as the same is wrong with it."""
+"""Makes the input of a fault smaller, as long as the fault stays the same."""
 import random
 import re
 from dataclasses import replace
@@ -11,12 +11,12 @@ MOST_RUNS = 400
 
 
 def kind_of(fault):
-    """A fault without its numbers."""
+    """Return the text of a fault without its numbers."""
     return fault and re.sub(r"[0-9]+", "N", fault)
 
 
 class Budget:
-    """Tells whether a smaller input has the fault still, so many times at most."""
+    """Tests whether a smaller input still has the fault, in at most `MOST_RUNS` runs."""
 
     def __init__(self, bench, fault):
         self.bench, self.fault, self.runs = bench, fault, MOST_RUNS
@@ -39,7 +39,7 @@ class Budget:
 
 
 def without_parts(parts, joined, budget):
-    """The parts, as few of them as can be had by leaving out ever shorter rows of them."""
+    """Return as few of the parts as are left after ever shorter runs of them were removed, if the fault stays."""
     size = len(parts)
     while size:
         start = 0
@@ -54,7 +54,7 @@ def without_parts(parts, joined, budget):
 
 
 def shrink(bench, fault):
-    """The same fault with a smaller input, if there is one."""
+    """Return the same fault with a smaller input, if there is one."""
     if not isinstance(fault.content, bytes) or len(fault.content) > 1 << 20 or fault.text.startswith(calling.ENDED):
         return fault
     budget = Budget(bench, fault)

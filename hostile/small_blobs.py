@@ -1,4 +1,4 @@
-"""Trials of images and bundles: parts for a journal, changed images, members, and what is told of their columns."""
+"""Trials of images and bundles: parts for a journal, changed images, members, and payloads about their columns."""
 import forms
 import images
 import mutation
@@ -16,7 +16,7 @@ def enveloped(random, payloads):
 
 
 def hostile_stream(random, corpus, payloads):
-    """A stream of these payloads, of which some are changed."""
+    """Return a stream of these payloads, some of them changed."""
     envelopes = mutation.change_envelopes(random, enveloped(random, payloads), corpus)
     return mutation.change_stream(random, forms.join(envelopes))
 
@@ -24,7 +24,7 @@ def hostile_stream(random, corpus, payloads):
 # Images.
 
 def parts(random, corpus):
-    """Payloads of which many have a part, of one blob or of several."""
+    """Return payloads, many of which have a part to store, of one blob or several."""
     subject = random.choice(corpus.subjects)
     payloads = [subject.metadata] + some(random, subject.slivers()) + some(random, subject.proofs)
     payloads += some(random, random.sample(corpus.payloads, 12)) if random.random() < 0.5 else []
@@ -35,7 +35,7 @@ def parts(random, corpus):
 
 
 def image_trial(random, corpus, command):
-    """A disk with the room that is needed, a little more or less, or any."""
+    """Return a trial with a disk that has the needed room, a little more or less, or any."""
     content = hostile_stream(random, corpus, parts(random, corpus))
     _, whole = images.image_of(MOST, [payload for _, payload in forms.split(content)[0]])
     size = len(whole)
@@ -45,7 +45,7 @@ def image_trial(random, corpus, command):
 
 
 def any_record(random, names):
-    """A record of any kind, most of them lawful by themselves."""
+    """Return a record of any kind; most are lawful by themselves."""
     kind = random.choice([images.PUT] * 4 + [images.DROP_PART] * 2 + [images.DROP_ALL])
     size = random.choice([1, 1, 2, 3, 7, 39, random.randrange(1, 300)]) if kind == images.PUT else 0
     part = 0 if kind == images.DROP_ALL else random.randrange(4)
@@ -55,7 +55,7 @@ def any_record(random, names):
 
 
 def unpack_trial(random, corpus, command):
-    """An image as the program writes it, or of any records, or of bytes; and then it is cut or changed."""
+    """Return a trial with an image as the program writes it, or of any records, or of bytes; then it is changed."""
     chance = random.random()
     if chance < 0.1:
         return ["unpack"], random.choice([b"", b"\0", b"\1"]) + random.randbytes(random.randrange(90))
@@ -70,14 +70,14 @@ def unpack_trial(random, corpus, command):
 
 
 def cut_record(random, image):
-    """A crash: of the last record only a front stands, and its gate is closed."""
+    """Return the image after a crash: only a prefix of the last record was written, and its gate is closed."""
     starts = places(image)
     place = random.choice(starts)
     return image[:place] + b"\0" + image[place + 1:random.randrange(place, len(image) + 1)]
 
 
 def places(image):
-    """Where records begin, as far as they are whole."""
+    """Return the places at which records begin, as far as they are whole."""
     found = [0]
     while len(image) >= found[-1] + 39 and image[found[-1]] == 1:
         found.append(found[-1] + 39 + forms.value_of(image[found[-1] + 35:found[-1] + 39]))
@@ -85,7 +85,7 @@ def places(image):
 
 
 def set_number(random, image):
-    """A gate, kind, part or size of a record at a limit."""
+    """Set a gate, kind, part or size of a record to a limit."""
     place = random.choice(places(image))
     at, size = random.choice([(0, 1), (1, 1), (34, 1), (35, 4)])
     old = forms.value_of(image[place + at:place + at + size])
@@ -115,7 +115,7 @@ def lie(random, payload):
 
 
 def column_of(random, subject, index):
-    """What is told of a column: its sliver, a false one, openings, too few, false ones among them, or nothing."""
+    """Return payloads about a column: its sliver, a false one, openings, too few or some of them false, or nothing."""
     sliver, opened = subject.sliver(SECONDARY, index), subject.openings(SECONDARY, index)
     false = [lie(random, opening) for opening in some(random, opened)]
     return random.choice([[sliver], [sliver], [lie(random, sliver)], [lie(random, sliver), sliver], opened, opened[1:],
@@ -123,13 +123,13 @@ def column_of(random, subject, index):
 
 
 def bundle_of(random, corpus):
-    """Mostly a bundle, else one with a false index or a false writer, or a blob that is none."""
+    """Return mostly a bundle, or else one with a false index or writer, or a blob that is no bundle."""
     chance = random.random()
     return random.choice(corpus.bundles if chance < 0.7 else corpus.forged if chance < 0.9 else corpus.subjects)
 
 
 def member_trial(random, corpus, command):
-    """The metadata, and what is told of the columns."""
+    """Return a trial with the metadata, and payloads about the columns."""
     subject = bundle_of(random, corpus)
     payloads = [subject.metadata] * random.choice([0] + [1] * 10 + [2])
     for index in range(subject.shards):

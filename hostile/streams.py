@@ -1,4 +1,4 @@
-"""The words and the input of each trial, drawn from its own random numbers."""
+"""Draws the words and the input of each trial from random numbers of its own."""
 
 import forms
 import images
@@ -10,7 +10,7 @@ from forms import AXES, PRIMARY, SECONDARY
 from running import Zeros
 
 def foreign_writer(random, subject):
-    """A false writer with a hostile metadata under the identifier that this one has, if it is a frame."""
+    """Return a false writer with changed metadata and the identifier that commits to it, if it still is a frame."""
     metadata = mutation.change_payload(random, subject.metadata)
     place = forms.numbers_at(metadata) if metadata else 0
     if len(metadata) < place + 10 or metadata[0] not in (forms.METADATA, forms.METADATA_TWO):
@@ -36,7 +36,7 @@ def enveloped(random, payloads):
 
 
 def read_stream(random, corpus, subject):
-    """Metadata, slivers and proofs in any order."""
+    """Return metadata, slivers and proofs in any order."""
     payloads = [subject.metadata] * random.choice([0, 1, 1, 1, 1, 1, 1, 2])
     payloads += some(random, subject.slivers()) + some(random, subject.proofs)
     random.shuffle(payloads)
@@ -44,7 +44,7 @@ def read_stream(random, corpus, subject):
 
 
 def recover_stream(random, corpus, subject):
-    """Metadata and openings of one sliver, and a few of others."""
+    """Return metadata and openings of one sliver, and a few openings of others."""
     axis, index = random.choice([PRIMARY, SECONDARY]), random.randrange(subject.shards)
     payloads = [subject.metadata] * random.choice([0, 1, 1, 1, 1, 1, 1, 2])
     payloads += subject.openings(axis, index) if random.random() < 0.7 else some(random, subject.openings(axis, index))
@@ -54,7 +54,7 @@ def recover_stream(random, corpus, subject):
 
 
 def proof_of(random, subject):
-    """A proof of bad encoding, or what says that it is one."""
+    """Return a frame in the form of a proof of bad encoding, which may show nothing."""
     axis, index = random.choice([PRIMARY, SECONDARY]), random.randrange(subject.shards)
     crosses = list(range(subject.needed(axis)))
     if random.random() < 0.3:
@@ -65,7 +65,7 @@ def proof_of(random, subject):
 
 
 def check_stream(random, corpus, subject):
-    """Metadata and proofs."""
+    """Return metadata and proofs."""
     if not subject.proofs and random.random() < 0.5:
         subject = random.choice([writer for writer in corpus.false if writer.proofs])
     payloads = [subject.metadata] * random.choice([0, 1, 1, 1, 1, 1, 1, 2])
@@ -80,12 +80,12 @@ def register(random, subject):
 
 
 def lie(random, sliver):
-    """A sliver of the same form with another content."""
+    """Return a sliver of the same form with another content."""
     return sliver[:40] + mutation.change_byte(random, sliver[40:])
 
 
 def request(random, subject, shard):
-    """Any request that names this blob."""
+    """Return any request that names this blob."""
     kind = random.choice(forms.KINDS)
     if kind in (forms.METADATA, forms.METADATA_TWO):
         return subject.metadata
@@ -111,7 +111,7 @@ def request(random, subject, shard):
 
 
 def story(random, subject, shard):
-    """What an honest client asks of a shard, and then anything."""
+    """Return the requests of an honest client to a shard, and then any others."""
     stored = [subject.metadata] + [subject.sliver(axis, subject.held(axis, shard)) for axis in (PRIMARY, SECONDARY)]
     stored[1:1] = [lie(random, sliver) for sliver in stored[1:] if random.random() < 0.3]
     kind = random.choice([forms.ACK_ENTRY, forms.ATTEST_ENTRY])
@@ -124,7 +124,7 @@ def story(random, subject, shard):
 
 
 def serve_stream(random, corpus, subject):
-    """Requests about one blob, or about two."""
+    """Return requests about one blob, or two."""
     shard = random.randrange(subject.shards)
     requests = story(random, subject, shard)
     if random.random() < 0.3:
@@ -138,12 +138,12 @@ def serve_stream(random, corpus, subject):
     return words, enveloped(random, requests)
 
 
-# Beacons that are few, so that an answer to one of them is also asked for beside another.
+# Only few beacons, so that an answer to one of them is sometimes verified against another.
 BEACONS = [bytes(32), b"\xff" * 32, bytes(range(32))]
 
 
 def audit_words(random, command, subject, shard, beacon, count):
-    """What is asked of a shard, and sometimes of another one, for another beacon, or so many more."""
+    """Return the words for a shard; sometimes those for another shard or beacon, or another number of draws."""
     shard = random.choice([shard] * 20 + [subject.shards, subject.shards - 1, 0, 999])
     beacon = random.choice([beacon] * 20 + BEACONS)
     count = random.choice([count] * 20 + [count + 1, max(1, count - 1), 1, 1000])
@@ -151,7 +151,7 @@ def audit_words(random, command, subject, shard, beacon, count):
 
 
 def challenge_stream(random, corpus, subject):
-    """Metadata, the slivers of a shard, false ones and others."""
+    """Return metadata, the slivers of a shard, false ones and others."""
     shard, count = random.randrange(subject.shards), random.choice([1, 1, 2, 3, 9, 40])
     own = [subject.sliver(axis, subject.held(axis, shard)) for axis in (PRIMARY, SECONDARY)]
     payloads = [subject.metadata] * random.choice([0, 1, 1, 1, 1, 1, 1, 2])
@@ -162,7 +162,7 @@ def challenge_stream(random, corpus, subject):
 
 
 def answer_to(corpus, subject, shard, beacon, count):
-    """The claims by which a shard that holds all answers, as the program makes them; none where it does not."""
+    """Return the claims with which a shard that holds everything answers, made by the program; none if it refuses."""
     payloads = [subject.metadata] + [subject.sliver(axis, subject.held(axis, shard)) for axis in (PRIMARY, SECONDARY)]
     words = ["challenge", subject.identifier.hex(), str(shard), beacon.hex(), str(count)]
     status, text = corpus.ask(words, forms.join([(shard, payload) for payload in payloads]))
@@ -170,7 +170,7 @@ def answer_to(corpus, subject, shard, beacon, count):
 
 
 def false_claims(random, corpus, subject, shard, beacon, claims):
-    """An answer that is not quite this one."""
+    """Return an answer that is not quite this one."""
     other, place = random.randrange(subject.shards), random.randrange(len(claims))
     axis = random.choice([PRIMARY, SECONDARY])
     opening = subject.opening(axis, other, random.randrange(subject.needed(axis)))
@@ -189,7 +189,7 @@ def false_claims(random, corpus, subject, shard, beacon, claims):
 
 
 def verify_stream(random, corpus, subject):
-    """Metadata and claims, true or nearly so, among frames that are none."""
+    """Return metadata and claims, true or nearly so, among other frames."""
     shard, beacon, count = random.randrange(subject.shards), random.choice(BEACONS), random.choice([1, 1, 2, 3, 9, 40])
     claims = answer_to(corpus, subject, shard, beacon, count)
     if claims and random.random() < 0.6:
@@ -200,14 +200,14 @@ def verify_stream(random, corpus, subject):
 
 
 def get(random, subject):
-    """What asks a gateway for a range of this blob."""
+    """Return a request to a gateway for a range of this blob."""
     size = len(subject.blob or bytes(12))
     numbers = [0, 0, 1, 2, max(0, size - 1), size, size + 1, 2**32 - 1, random.randrange(size + 1)]
     return forms.get(subject.identifier, random.choice(numbers), random.choice(numbers))
 
 
 def gateway_stream(random, corpus, subject):
-    """Gets of a few blobs with what shards reply to a read, or with less, or with what others reply."""
+    """Return requests for ranges of a few blobs, with shards' replies to a read, with less, or with those of others."""
     subjects, payloads = [subject] + random.sample(corpus.subjects, 2), []
     for _ in range(random.choice([1, 2, 3, 6, 9])):
         asked, heard = random.choice(subjects), random.choice(subjects)
@@ -244,7 +244,7 @@ def schedule_trial(random, corpus, command):
 
 
 def false_number(random, number):
-    """What is near a number in range, and none."""
+    """Return a text that is close to a number in range, but no such number."""
     return random.choice([
         f"0{number}", f"00{number}", f"+{number}", f"-{number}", f" {number}", f"{number} ", f"{number}\n", f"{number}.0",
         f"{number}e0", f"{number:#x}", f"{number:#b}", f"{number}_0", f"1,{number}", f"{number}L", f"{number}\u0661",
@@ -252,7 +252,7 @@ def false_number(random, number):
 
 
 def sample_trial(random, corpus, command):
-    """Each run of a sample is a whole schedule, so most words have no number."""
+    """Return a trial of `sample`. Each run replays a whole schedule, so most words have no valid number."""
     number = random.choice([0, 1, 2**32, 2**63, 2**64 - 1, random.randrange(2**64), random.randrange(1000)])
     text = str(number) if random.random() < 0.05 else false_number(random, number)
     return ["sample", text], random.choice([b"", b"W", random.randbytes(20)])
@@ -264,7 +264,7 @@ TRIALS = {"id": blob_trial, "encode": blob_trial, "read": stream_trial, "recover
           **small_blobs.TRIALS}
 
 
-# Words that ask for something else, or for nothing.
+# Words that match another command, or none.
 
 HOSTILE_WORDS = [
     b"", b"0", b"00", b"01", b"+1", b"-1", b"1 ", b" 1", b"1.0", b"1e0", b"0x1", b"333", b"334", b"999", b"1000",
@@ -296,7 +296,7 @@ def change_words(random, words):
     return words
 
 
-# Inputs at their limits. They take long, so each is tried once in so many trials.
+# Inputs at their limits. They take long, so there is one in this many trials.
 RARE = 1000
 STREAM_WORDS = {"read": ["ID"], "recover": ["ID", "primary", "0"], "check": ["ID"], "image": ["134217728"],
                 "bundle": ["1"], "member": ["ID", "0"], "challenge": ["ID", "0", "0" * 64, "1"],
@@ -305,7 +305,7 @@ LONG_PUT = images.HEAD.pack(1, images.PUT, bytes(32), 1, images.LARGEST)
 
 
 def long_inputs(corpus, command):
-    """Words and inputs about the longest that a command takes."""
+    """Return words and inputs about as long as the longest that a command accepts."""
     identifier = corpus.honest[0].identifier.hex()
     if command in ("id", "encode"):
         return [([command, "1"], Zeros(b"", size)) for size in (16777216, 16777217)]
@@ -328,7 +328,7 @@ def long_inputs(corpus, command):
 
 
 def trial(random, corpus, command, number):
-    """The words, as bytes, and the input of one trial."""
+    """Return the words, as bytes, and the input of one trial."""
     if number % RARE == RARE - 1:
         inputs = long_inputs(corpus, command)
         words, content = inputs[number // RARE % len(inputs)]

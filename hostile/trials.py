@@ -1,4 +1,4 @@
-"""Trials: an input, its whole answer, and one further check of some."""
+"""Trials: an input, its whole answer, and for some of them a further check."""
 import json
 import os
 import random
@@ -13,11 +13,11 @@ from judging import Judge
 from running import MEBIBYTE, Limits, Outcome, Runner, least_memory
 from words import is_text, without_options
 
-CHECKED = 4  # one trial of so many has a further check
+CHECKED = 4  # one in this many trials has a further check
 
 
 def page_bytes(words):
-    """What a shard's pages or an image's disk take, as the words tell it."""
+    """Return the bytes that a shard's pages or an image's disk take, according to the words."""
     values, options = without_options(words)
     if values and values[0] == b"image" and len(values) == 2 and values[1].isdigit() and len(values[1]) < 10:
         return int(values[1])
@@ -28,25 +28,25 @@ def page_bytes(words):
 
 
 def bound(words, content):
-    """The bytes of memory that a run may take: a base, some for each byte of input, and a shard's pages or a disk."""
+    """Return the bytes of memory for a run: a base, some for each byte of input, and for a shard's pages or a disk."""
     return 192 * MEBIBYTE + 20 * len(content) + page_bytes(words)
 
 
 def limits_of(words, content):
-    """What a run may use: the memory, and half a minute of the processor with a second for each megabyte of input."""
+    """Return the limits of a run: memory, and 30 seconds of processor time and one for each MiB of input."""
     return Limits(bound(words, content), 30 + len(content) / MEBIBYTE)
 
 
 @dataclass
 class Trial:
-    """One input with its words, and what came of it."""
+    """One input with its words, and its outcome."""
     runner: Runner
     command: str
     words: list
     content: object
     limits: Limits
     least_memory: int
-    beside: Runner = None  # of the program, where the library is tried
+    beside: Runner = None  # of the program, if the library is tested
     whole: object = None
 
     def run(self, words, content, limits, **places):
@@ -59,12 +59,12 @@ class Trial:
         return self.runner.end(begun, self.limits)
 
     def takes_nothing(self):
-        """Whether the input is never looked at: the words ask for nothing, or for a sample."""
+        """Return whether the input is never read: the words match no command, or are those of `sample`."""
         values, _ = without_options(self.words) if is_text(self.words) else (None, None)
         return self.whole.status in (2, 11) or (values or [b""])[0] == b"sample"
 
     def cut_fault(self, outcome, text, room):
-        """What is wrong with a run whose sink took `text`, and no more than `room` bytes."""
+        """Return what is wrong with a run whose sink accepted `text`, and at most `room` bytes."""
         if outcome.errors:
             return "it writes to standard error where the sink fails"
         fails = room < len(self.whole.text)
@@ -76,7 +76,7 @@ class Trial:
 
 @dataclass
 class Tally:
-    """What came of many trials."""
+    """The outcome of many trials."""
     inputs: int = 0
     checks: int = 0
     statuses: Counter = field(default_factory=Counter)
@@ -106,7 +106,7 @@ class Bench:
         self.judge = None
 
     def own(self):
-        """This process's own runner or its caller of the library, and its runner of the program."""
+        """Return this process's runner of trials, or its caller of the library, and its runner of the program."""
         if self.owner != os.getpid():
             self.owner, self._beside = os.getpid(), Runner(self.program)
             self._runner = calling.Caller(self.library) if self.library else self._beside
@@ -117,7 +117,7 @@ class Bench:
         return self.own()[0]
 
     def ask(self, words, content):
-        """The status and the text of one plain run of the program."""
+        """Return the status and the text of one plain run of the program."""
         words = [word.encode() for word in words]
         outcome = self.own()[1].run(words, content, limits_of(words, content))
         return outcome.status, outcome.text
@@ -126,23 +126,23 @@ class Bench:
         self.judge = Judge(corpus)
 
     def draw(self, command, number):
-        """The random numbers, the words and the input of a trial."""
+        """Return the random numbers, the words and the input of a trial."""
         drawn = random.Random(f"{self.seed} {command} {number}")
         words, content = streams.trial(drawn, self.judge.corpus, command, number)
         return drawn, words, content
 
     def plain_fault(self, trial):
-        """The whole answer, and what is wrong with it."""
+        """Get the whole answer, and return what is wrong with it."""
         trial.whole = trial.run(trial.words, trial.content, trial.limits)
         if trial.whole.status == 5:
-            return f"more than {trial.limits.memory} bytes of memory are wanted"
+            return f"more than {trial.limits.memory} bytes of memory are needed"
         try:
             return self.judge.fault(trial.words, trial.content, trial.whole)
         except (IndexError, KeyError, ValueError) as error:
             return f"an answer that cannot be judged: {error!r}"
 
     def further_fault(self, trial, drawn):
-        """What a further check finds, where there is one."""
+        """Make a further check, and return what is wrong."""
         check = drawn.choice(self.checks)
         fault = check(trial, drawn)
         return f"{check.__name__}: {fault}" if fault else None
@@ -180,7 +180,7 @@ class Bench:
         return tally
 
     def try_in_children(self, command, numbers, tally):
-        """Tries these in a child, and where it ends in one of them, those before it and behind it in further ones."""
+        """Make these trials in a child. If one of them ends it, make those before and after it in further children."""
         while numbers:
             part, end = calling.in_child(lambda note: self.try_each(command, numbers, Tally(), note))
             if part:
@@ -199,7 +199,7 @@ class Bench:
 
 @dataclass
 class Fault:
-    """What was wrong, and with what."""
+    """A fault that was found, with the input and its answer."""
     text: str
     command: str
     seed: int
@@ -209,7 +209,7 @@ class Fault:
     whole: object
 
     def keep(self, folder, end=""):
-        """Keeps the input in a file, and in another one the seed, the words and the answer. The name of the latter."""
+        """Keep the input in a file, and seed, words and answer in another one. Returns the name of the latter."""
         os.makedirs(folder, exist_ok=True)
         name = os.path.join(folder, f"{self.command}-{self.seed}-{self.number}{end}")
         with open(f"{name}.input", "wb") as kept:

@@ -1,4 +1,4 @@
-"""Which words ask for something."""
+"""Tells which command lines match a command."""
 import re
 
 def is_number(word, least, most):
@@ -49,7 +49,7 @@ OPTIONS = {b"--format": lambda word: word in (b"1", b"2"), b"--pages": lambda wo
 
 
 def without_options(words):
-    """The words that are no options, and the options; none where they are not plainly in order."""
+    """Return the words that are no options, and the options; None for both if the options are not plainly valid."""
     values, options, place = [], {}, 0
     while place < len(words):
         name, equals, value = words[place].partition(b"=")

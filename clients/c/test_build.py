@@ -1,4 +1,4 @@
-"""Tests of clients/c/build on sources that nobody proved: python3 -m unittest."""
+"""Tests of clients/c/build on sources that were not proved: python3 -m unittest."""
 
 import os
 import pathlib
@@ -15,7 +15,7 @@ LEFT_OUT = 77
 @unittest.skipUnless(shutil.which("rt"), "rt is not on PATH")
 @unittest.skipUnless(shutil.which("cc"), "there is no C compiler cc")
 class Refused(unittest.TestCase):
-    """It builds nothing of a crate that is not proved as it stands."""
+    """It builds nothing if a crate is not proved in its present state."""
 
     def setUp(self) -> None:
         folder = tempfile.TemporaryDirectory()
@@ -26,7 +26,7 @@ class Refused(unittest.TestCase):
         shutil.copytree(C, self.top / "clients" / "c", ignore=ignored)
         shutil.copy2(TOP / "crates.txt", self.top)
         (self.top / ".git").mkdir()
-        self.libraries = {}  # what stands for those of the crates
+        self.libraries = {}  # empty stand-ins for the libraries of the crates
         for crate in (self.top / "crates").glob("*_*/"):
             library = self.libraries[crate.name] = crate / "out" / "rlib" / f"{crate.name}.rlib"
             library.mkdir(parents=True)
@@ -44,7 +44,7 @@ class Refused(unittest.TestCase):
         self.assertIn("wal_gf has no library", self.said())
 
     def test_an_older_library(self) -> None:
-        """Of a crate that stands on one whose source was changed."""
+        """Of a crate that depends on one whose source was changed."""
         changed = self.top / "crates" / "wal_lanes" / "src" / "lib.rt"
         for file in self.top.rglob("*"):
             os.utime(file, (100, 100))

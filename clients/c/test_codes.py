@@ -1,6 +1,6 @@
-"""Tests of walrus_code: each refusal that an input leads to has its number, and no other text has it.
+"""Tests of walrus_code: each refusal that an input causes has its number, and no other text has that number.
 
-The numbers stand here once more, by hand, as they are never to change.
+The numbers are repeated here by hand, since they must never change.
 """
 
 import re
@@ -56,7 +56,7 @@ CODES = {
 I, J = HONEST.id.hex(), FALSE.id.hex()
 ANSWER = envelope(0, bytes(10))  # as `serve` writes one
 COLLISION = b"collision 00 01\n"
-# What no input leads to here: the text for it, and the number.
+# Refusals that no input in these tests causes: status, text and number.
 TEXTS = [
     (5, b"", 501),
     (5, b"miss no metadata\n", 501),
@@ -84,7 +84,7 @@ class Header(unittest.TestCase):
         rows = re.findall(r"^    WALRUS_CODE_\w+ = (\d+),? +/\* (?:'([^']+)')?", (C / "walrus.h").read_text(), re.M)
         quoted = {int(number): text for number, text in rows}
         wanted = {number: text for number, (_, text) in CODES.items()}
-        self.assertEqual({**quoted, 1001: "collision LEFT RIGHT"}, wanted)  # which need not be the whole text
+        self.assertEqual({**quoted, 1001: "collision LEFT RIGHT"}, wanted)  # it quotes only a part of this line
 
     def test_the_manual_of_the_library_lists_them(self) -> None:
         rows = re.findall(r"^(\d+)\tWALRUS_CODE_(\w+)\t(.+)$", (TOP / "docs" / "walrus.3").read_text(), re.M)
@@ -104,7 +104,7 @@ class Header(unittest.TestCase):
 @needs_library
 class Codes(unittest.TestCase):
     def ends(self, words: list[str], data: bytes, code: int) -> None:
-        """The call has the number's status, and its text the number."""
+        """Check that a call has the status of this number, and that its text has the number."""
         library = Library()
         status, text = library.answer(words, data)
         self.assertEqual((status, library.code(status, text)), (code // 100, code), text[:80])
@@ -139,7 +139,7 @@ class Codes(unittest.TestCase):
                 self.assertEqual(library.code(status, text), code)
 
     def test_no_refusal(self) -> None:
-        """Status 0 whatever the text is, a status that there is not, a text of another status, and a part of a line."""
+        """Neither status 0 with any text, nor an unknown status, a text of another status or part of a line is one."""
         library = Library()
         lines = [row.ends[1] for row in test_statuses.ENDINGS.values()]
         for status in (0, 1, 12, 127, 255):
@@ -166,7 +166,7 @@ class Codes(unittest.TestCase):
                 self.assertEqual(library.code(status, text), NONE)
 
     def test_fronts_of_one_another(self) -> None:
-        """Lines that begin alike are told apart, by their status or by what follows."""
+        """Lines with a common prefix are distinguished by their status or by what follows."""
         library = Library()
         for status, text, code in (
             (3, b"wrong 12\n", 304),

@@ -1,7 +1,7 @@
 """Tests of the library that C calls: python3 -m unittest.
 
-Each row of words and input that is tried on the program is tried on the library too, and a C program calls it with each
-room, from eight threads and where memory is refused. ./walrus --library builds the library.
+Each row of words and input that is tested on the program is tested on the library too. A C program calls the library
+with different room, from eight threads, and while memory is refused. ./walrus --library builds the library.
 """
 
 import os
@@ -47,7 +47,7 @@ needs_compiler = unittest.skipUnless(COMPILER, "there is no C compiler cc")
 
 
 def in_library(module: types.ModuleType, name: str, tests: type[unittest.TestCase]) -> type[unittest.TestCase]:
-    """The same tests of rows, each row of which the library is called with."""
+    """Return the same tests of rows, but with the library called in place of the program."""
 
     def begin(self: unittest.TestCase) -> None:
         library = Library()
@@ -62,7 +62,7 @@ def in_library(module: types.ModuleType, name: str, tests: type[unittest.TestCas
 
 
 def load_tests(loader: unittest.TestLoader, own: unittest.TestSuite, _pattern: str | None) -> unittest.TestSuite:
-    """The tests of this module, and those of rows in the library."""
+    """Return the tests of this module, and the tests of rows with the library."""
     suite = unittest.TestSuite([own])
     for module in OF_ROWS:
         for name, tests in vars(module).items():
@@ -74,7 +74,7 @@ def load_tests(loader: unittest.TestLoader, own: unittest.TestSuite, _pattern: s
 
 @needs_library
 class Words(unittest.TestCase):
-    """Words that are none, and input that is nothing."""
+    """Words that are malformed, or match no command."""
 
     def test_words_end_with_a_zero_byte(self) -> None:
         library = Library()
@@ -102,7 +102,7 @@ class Words(unittest.TestCase):
 @needs_library
 @needs_program
 class Program(unittest.TestCase):
-    """The library beside the program, on what tests/test_refused_memory.py refuses memory on."""
+    """The library gives the same answers as the program, in the cases of tests/test_refused_memory.py."""
 
     def test_the_same_bytes(self) -> None:
         library = Library()
@@ -134,7 +134,7 @@ class Calls(unittest.TestCase):
         least: dict[str, tuple[list[str], bytes, int]] = {}
         for one in sorted(found, key=lambda it: len(it[1])):
             least.setdefault(one[0][0], one)
-        del least["sample"]  # which is long with no input
+        del least["sample"]  # it takes long even without input
         cls.small.write_bytes(b"".join(cls.packed(*one) for one in least.values()))
 
     @staticmethod
@@ -143,13 +143,13 @@ class Calls(unittest.TestCase):
         return struct.pack("<3Q", status, len(told), len(data)) + told + data
 
     def built(self, name: str, *flags: str | pathlib.Path) -> pathlib.Path:
-        """What calls.c becomes, linked with the archive."""
+        """Compile calls.c, link it with the archive, and return the program."""
         made = self.folder / name
         subprocess.run([str(COMPILER), *FLAGS, *flags, "-o", made, C / "calls.c", ARCHIVE], check=True)
         return made
 
     def calls(self, *words: str | pathlib.Path) -> int:
-        """How many calls a program made, all of which were as they should be."""
+        """Run a program, check that all of its calls gave the right results, and return their number."""
         ran = subprocess.run(words, capture_output=True, text=True, timeout=SECONDS)
         self.assertEqual(ran.returncode, 0, ran.stdout[-2000:] + ran.stderr[-2000:])
         found = re.fullmatch(r"(\d+) calls of (\d+) cases are as they should be\n", ran.stdout)
@@ -157,12 +157,12 @@ class Calls(unittest.TestCase):
         return int(found[1])
 
     def test_each_room(self) -> None:
-        """No room, one byte, half, one too few, enough and more: with the address sanitizer where it is there."""
+        """No room, one byte, half, one too few, enough and more; with the address sanitizer if it is available."""
         flags = ["-fsanitize=address,undefined"] if self.sanitizes() else []
         self.assertGreaterEqual(self.calls(self.built("rooms", *flags), "rooms", self.file), 5 * self.count)
 
     def sanitizes(self) -> bool:
-        """Whether the compiler has the sanitizer's library."""
+        """Return whether the compiler has the sanitizer's library."""
         made = self.folder / "tried"
         words = [str(COMPILER), "-fsanitize=address,undefined", "-xc", "-", "-o", made]
         ran = subprocess.run(words, input=b"int main(void) { return 0; }\n", capture_output=True)
@@ -172,18 +172,18 @@ class Calls(unittest.TestCase):
         self.assertEqual(self.calls(self.built("threads"), "threads", self.file), (2 + 8 * 3) * self.count)
 
     def test_refused_memory(self) -> None:
-        """Each request of a call, or six hundred of them, is refused; nothing is held behind the call."""
+        """Each request for memory of a call is refused, or 600 of them; after the call no memory is held."""
         made = self.built("memory", "-DREFUSES", *WRAPPED)
         self.assertGreater(self.calls(made, "memory", self.file), 20 * self.count)
 
     @unittest.skipUnless(shutil.which("valgrind"), "there is no valgrind")
     def test_under_valgrind(self) -> None:
-        """Each command once, on its least input."""
+        """Each command once, with its smallest input."""
         checks = ["valgrind", "--quiet", "--error-exitcode=9", "--leak-check=full", "--errors-for-leak-kinds=all"]
         self.assertGreater(self.calls(*checks, self.built("plain"), "rooms", self.small), 40)
 
     def test_the_example(self) -> None:
-        """It is built by what walrus.pc says, and spreads a file and reads it back."""
+        """It is built with the flags of walrus.pc, spreads a file and reads it back."""
         blob, made = self.folder / "blob", self.folder / "spread"
         blob.write_bytes(random.Random(1).randbytes(100_000))
         flags = [f"-I{C}", f"-L{LIBRARY.parent}", "-lwalrus"]
@@ -217,7 +217,7 @@ class Exports(unittest.TestCase):
 
     @unittest.skipUnless(shutil.which("nm"), "there is no nm, which tells what a library asks for")
     def test_it_takes_memory_from_malloc_alone(self) -> None:
-        """And asks the C library for little else."""
+        """And it uses little else of the C library."""
         told = subprocess.run(["nm", "-D", "--undefined-only", LIBRARY], capture_output=True, text=True, check=True)
         names = {line.split()[-1].partition("@")[0] for line in told.stdout.splitlines()}
         self.assertEqual(names & test_refused_memory.GIVERS, {"malloc", "realloc"})

@@ -1,4 +1,4 @@
-"""Tests of the room that the library tells for words before they are run."""
+"""Tests of the room that the library reports for a command before it is run."""
 
 import random
 import sys
@@ -15,13 +15,13 @@ import forms  # noqa: E402
 import test_refused_memory  # noqa: E402
 import test_rows  # noqa: E402
 
-UNKNOWN = 2**64 - 1  # the room that is told where none is given
-MOST_ROOM = 2**26  # bytes that a test has at once
-SUBJECTS: Any = corpus.Corpus  # which has no types
+UNKNOWN = 2**64 - 1  # reported if there is no bound, or the words are malformed
+MOST_ROOM = 2**26  # the most bytes that a test allocates at once
+SUBJECTS: Any = corpus.Corpus  # it has no type annotations
 
 
 def cases(library: Library) -> list[tuple[list[str], bytes, int]]:
-    """Words, input and status of each command."""
+    """Return words, input and status of cases for each command."""
     with mock.patch.object(test_refused_memory, "SUBJECTS", SUBJECTS(library.answer, random.Random(1)), create=True):
         found: Any = test_refused_memory.cases
         return list(found())
@@ -29,11 +29,11 @@ def cases(library: Library) -> list[tuple[list[str], bytes, int]]:
 
 @needs_library
 class Rooms(unittest.TestCase):
-    """The room that is told for words before they are run."""
+    """The room that is reported for words and the length of an input."""
 
     def test_it_suffices(self) -> None:
-        """Each command in a room of exactly so many bytes, or its length where they are many: `encode`, `id`
-        and a full image take all of them, and one fewer is too little."""
+        """Each command in a room of exactly that many bytes; if they are many, only the length is compared. `encode`,
+        `id` and a full image use all of them, and one byte less is too little."""
         library, given, filled = Library(), set(), set()
         for words, data, expected in cases(library):
             told = spelled(words)
@@ -106,7 +106,7 @@ class Rooms(unittest.TestCase):
                 self.assertEqual(library.room(spelled(words), length), room)
 
     def test_an_image_of_small_parts(self) -> None:
-        """Nothing has more lines for its bytes than secondary slivers of one byte: 77 for each record of 40."""
+        """Secondary slivers of one byte give the most text for their bytes: 77 for each record of 40."""
         library, count = Library(), 50
         records = [b"\1\1" + bytes([it]) * 32 + b"\2" + (1).to_bytes(4, "big") + b"x" for it in range(count)]
         image = b"".join(records) + b"\0"
@@ -116,7 +116,7 @@ class Rooms(unittest.TestCase):
         self.assertEqual(library.call(spelled(["unpack"]), image, room), (0, lines, len(lines)))
 
     def test_a_member_longer_than_a_blob(self) -> None:
-        """The index may say that a member has all columns but the first, with the zeros behind the longest blob."""
+        """An index may give a member all columns except the first, with the zeros after the longest blob."""
         library, faults, size = Library(), 149, 376
         rows_there, columns = faults + 1, 2 * faults + 1
         length = rows_there * (columns - 1) * size

@@ -1,4 +1,4 @@
-"""What the examples share: how they are called, what they say and check, and a writer that encodes badly."""
+"""Shared by the examples: how they are called, what they print and check, and a writer that encodes badly."""
 import argparse
 import hashlib
 import os
@@ -15,12 +15,12 @@ SIX_WORDS = bytes.fromhex("000100020003000400050006")
 
 
 def find_walrus(path: str = "") -> client.Walrus:
-    """The program at a path, or that of the variable WALRUS, or else what the script at the top builds."""
+    """Find the program: at this path, where the variable WALRUS says, or else where the script ./walrus builds it."""
     return client.Walrus.find(path or os.environ.get("WALRUS") or str(TOP / "walrus"))
 
 
 def run(story: Callable[[client.Walrus], Coroutine[Any, Any, None]], doc: str | None) -> None:
-    """Runs an example, whose one word may be the program."""
+    """Run an example; its only argument, which is optional, is the program."""
     parser = argparse.ArgumentParser(description=doc)
     parser.add_argument(
         "program", nargs="?", default="", metavar="PROGRAM", help="else the variable WALRUS, or ./walrus"
@@ -33,14 +33,14 @@ def run(story: Callable[[client.Walrus], Coroutine[Any, Any, None]], doc: str | 
 
 
 def check(holds: bool, text: str) -> None:
-    """Says what was found, and ends the example where it does not hold."""
+    """Print what was checked, and end the example if it does not hold."""
     print(("ok: " if holds else "FAILED: ") + text, flush=True)
     if not holds:
         sys.exit(1)
 
 
 async def codes(shard: client.Shard, *requests: frames.Frame | bytes) -> list[int | None]:
-    """The codes of a shard's answers to requests, None for a clash."""
+    """Return the codes of a shard's answers to requests, None for a clash."""
     payloads = [request if isinstance(request, bytes) else frames.write_frame(request) for request in requests]
     return [getattr(reply.end, "code", None) for reply in await shard.ask(*payloads)]
 
@@ -50,7 +50,7 @@ def digest(*pieces: bytes) -> bytes:
 
 
 def root(leaves: list[bytes]) -> bytes:
-    """The Merkle root over a power of two of leaves."""
+    """Return the Merkle root of leaves whose number is a power of two."""
     level = [digest(b"\0", leaf) for leaf in leaves]
     while len(level) > 1:
         level = [digest(b"\1", left, right) for left, right in zip(level[::2], level[1::2])]
@@ -58,7 +58,7 @@ def root(leaves: list[bytes]) -> bytes:
 
 
 async def encode_badly(walrus: client.Walrus) -> client.Encoded:
-    """Six words by a writer that lies: row 3 is not what the columns have there, though it is committed."""
+    """Encode six words as a lying writer: it commits to a row 3 that does not match the columns."""
     good = await walrus.encode(SIX_WORDS, 1)
     false_row = [bytes([0, word]) for word in (14, 11, 13, 8)]  # the true one is 14, 11, 12, 9
     metadata = frames.read_frame(good.metadata)

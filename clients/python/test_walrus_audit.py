@@ -1,4 +1,4 @@
-"""Tests of what asks shards for their slivers: python3 -m unittest here, with the program WALRUS or ./walrus."""
+"""Tests of audits of shards: python3 -m unittest here, with the program WALRUS or ./walrus."""
 import asyncio
 import contextlib
 import io
@@ -11,14 +11,14 @@ import example_tools
 from walrus import audit as walrus_audit, client, frames, front as walrus_front, loop, serving
 from walrus.audit import Audit, audit
 
-SLOW = 30.0  # seconds in which what must end does, on a busy machine
+SLOW = 30.0  # seconds until anything must have ended, on a busy machine
 BEACON, NAME = bytes(range(32)), "e02bba4bcbf5e38690b9d44c477647094b390c35d101726424629de2f5ab48fa"
 loop.wait_without_threads()
 
 
 class Drawing(unittest.TestCase):
     def test_a_draw(self):
-        """Draw 1 of shard 3: the digest of its 69 bytes begins with 8145fe0dc7, as sha256sum tells."""
+        """Draw 1 of shard 3: the digest of its 69 bytes begins with 8145fe0dc7, according to sha256sum."""
         name = bytes.fromhex(NAME)
         self.assertEqual(walrus_audit.draw(BEACON, name, 4, 3, 1), client.Symbol(name, client.PRIMARY, 3))
         self.assertEqual(walrus_audit.draw(BEACON, name, 1000, 3, 1), client.Symbol(name, client.PRIMARY, 527))
@@ -36,21 +36,21 @@ class Words(unittest.TestCase):
 
 
 class Audits(unittest.IsolatedAsyncioTestCase):
-    """Four shards, of which some lack or falsify what they are asked for."""
+    """Four shards, some of which lack or falsify what is requested."""
 
     async def asyncSetUp(self):
-        asyncio.get_running_loop().set_debug(False)  # which takes long
+        asyncio.get_running_loop().set_debug(False)  # debugging is slow
         self.walrus = example_tools.find_walrus()
         self.stack = await self.enterAsyncContext(contextlib.AsyncExitStack())
 
     async def shard(self, number: int, *parts: frames.Frame | bytes) -> client.Shard:
-        """A shard that takes these parts."""
+        """Return a shard that has accepted these parts."""
         shard = await self.stack.enter_async_context(serving.ProcessShard(self.walrus, 1, number, "--pages", "256"))
         self.assertEqual(await example_tools.codes(shard, *parts), [0] * len(parts))
         return shard
 
     async def test_shards_that_hold_all(self):
-        """In both formats, and of a writer that lied: what is shown is what it committed to."""
+        """In both formats, and for a writer that lied: the symbols match the metadata."""
         blobs = [await self.walrus.encode(bytes(range(250)) * 40, 1, form) for form in (1, 2)]
         for encoded in [*blobs, await example_tools.encode_badly(self.walrus)]:
             entry = client.RegisterEntry(encoded.identifier, 9)
@@ -65,7 +65,7 @@ class Audits(unittest.IsolatedAsyncioTestCase):
         name, entry, metadata = encoded.identifier, client.RegisterEntry(encoded.identifier, 9), encoded.metadata
         primary, secondary = encoded.slivers[3]
         drawn = [walrus_audit.draw(BEACON, name, 4, 3, number) for number in range(20)]
-        columns = sum(symbol.axis == client.SECONDARY for symbol in drawn)  # which its primary sliver crosses
+        columns = sum(symbol.axis == client.SECONDARY for symbol in drawn)  # those that its primary sliver crosses
         rows = [
             ([], "no metadata"),
             ([entry], "no metadata"),
@@ -94,7 +94,7 @@ class Audits(unittest.IsolatedAsyncioTestCase):
         self.assertEqual(found, Audit(False, "the answer to 6 draws has more than 854 bytes: draw fewer"))
 
     async def open_fronts(self, encoded: client.Encoded) -> list[walrus_front.Front]:
-        """Four shards behind ports, which hold a blob."""
+        """Return four shards behind ports that hold a blob."""
         fronts = [walrus_front.Front(self.walrus.path, 1, number, "--pages", "256") for number in range(4)]
         for front in fronts:
             self.stack.push_async_callback(front.close)
@@ -105,7 +105,7 @@ class Audits(unittest.IsolatedAsyncioTestCase):
         return fronts
 
     async def run_command(self, *words: str) -> tuple[int | None, list[str], str]:
-        """The status, the lines, and what was said on standard error."""
+        """Run the command; return its status, its lines, and its standard error."""
         pipe = asyncio.subprocess.PIPE
         told = [sys.executable, "-m", "walrus.audit", "--walrus", self.walrus.path, *words]
         process = await asyncio.create_subprocess_exec(*told, env=dict(os.environ), stdout=pipe, stderr=pipe)

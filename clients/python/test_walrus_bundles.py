@@ -17,7 +17,7 @@ BUNDLE = bytes.fromhex("0002000100000002 aabb000000000000 cc00000000000000 00020
 
 class Layouts(unittest.TestCase):
     def test_which_files_go_together(self) -> None:
-        """As many as fit, in order; a file that fits into no bundle with others is alone."""
+        """As many as fit, in order; a file that does not fit into a bundle with others is alone."""
         table = [
             ([], []),
             ([7], [range(1)]),
@@ -33,9 +33,9 @@ class Layouts(unittest.TestCase):
 
     def test_what_is_split(self) -> None:
         self.assertEqual(bundles.split(BUNDLE, 1), TWO)
-        self.assertEqual(bundles.split(BUNDLE[:-1], 1), TWO)  # which has the same columns
+        self.assertEqual(bundles.split(BUNDLE[:-1], 1), TWO)  # it has the same columns
         self.assertEqual((bundles.split(bytes(12), 1), bundles.split(b"", 1)), ([], []))
-        places = 1, 3, 7, 8, 24, 25, 29  # a byte of the index each, but for 8, which is one of a member
+        places = 1, 3, 7, 8, 24, 25, 29  # each is a byte of the index, except 8, a byte of a member
         for place in places:
             front, behind = BUNDLE[:place], BUNDLE[place:]
             changed = front + bytes([behind[0] ^ 0x40]) + behind[1:]
@@ -60,15 +60,15 @@ class Layouts(unittest.TestCase):
 
 
 class Members(unittest.IsolatedAsyncioTestCase):
-    """Shards with bundles, of which some are lost or lie."""
+    """Shards with bundles, some of which are lost or lie."""
 
     async def asyncSetUp(self) -> None:
-        asyncio.get_running_loop().set_debug(False)  # which takes long
+        asyncio.get_running_loop().set_debug(False)  # debugging is slow
         self.walrus = example_tools.find_walrus()
         self.stack = await self.enterAsyncContext(contextlib.AsyncExitStack())
 
     async def start(self, faults: int, liars: tuple[int, ...] = ()) -> list[client.Shard]:
-        """Shards behind fronts; the liars change the last byte of each opening that they give."""
+        """Return shards behind fronts; the liars change the last byte of each opening that they reply."""
         shards = list[client.Shard]()
         for number in range(3 * faults + 1):
             front = walrus_front.Front(self.walrus.path, faults, number, "--pages", "256")
@@ -87,7 +87,7 @@ class Members(unittest.IsolatedAsyncioTestCase):
         return encoded.identifier
 
     async def test_from_the_shards_that_hold_the_columns(self) -> None:
-        """In both formats nobody else is asked, and the program runs once for the index and once for the member."""
+        """In both formats no other shard is asked, and the program runs once for the index and once for the member."""
         shards = await self.start(1)
         for form, holders in ((1, (0, 2)), (2, (3, 1))):
             name = await self.store(shards, TWO, form)
@@ -107,7 +107,7 @@ class Members(unittest.IsolatedAsyncioTestCase):
                 self.assertEqual(await bundles.fetch_member(shards, name, number, self.walrus), member)
 
     async def test_members_of_many_columns(self) -> None:
-        """Seven shards, of which two lie: an index of two columns, members of none, one and several."""
+        """Seven shards, two of which lie: an index of two columns, members of no, one and several columns."""
         drawn = random.Random(5)
         members = [drawn.randbytes(size) for size in (4, 0, 30, 1)]
         for liars in ((), (0, 1), (3, 4)):
@@ -140,7 +140,7 @@ class Members(unittest.IsolatedAsyncioTestCase):
         self.assertEqual((few.exception.held, few.exception.needed), (1, 2))
 
     async def test_other_words_change_nothing(self) -> None:
-        """A program whose refusals have no word of English: the same is read, and refused in the same way."""
+        """With a program whose refusals are not in English, the same is read, and the same is refused."""
         foreign = test_walrus_codes.Foreign(self.walrus.path)
         shards = await self.start(1, liars=(0,))
         name = await self.store(shards, TWO)
@@ -161,7 +161,7 @@ class Members(unittest.IsolatedAsyncioTestCase):
         self.assertEqual((few.exception.held, few.exception.needed), (1, 2))
 
     async def test_a_column_that_was_badly_encoded(self) -> None:
-        """The proof that its openings make is no sliver: nobody can read the bundle."""
+        """Its openings give a proof instead of a sliver: nobody can read the bundle."""
         shards = await self.start(1)
         bad = await example_tools.encode_badly(self.walrus)
         await client.publish(shards, bad, until=9)
@@ -171,7 +171,7 @@ class Members(unittest.IsolatedAsyncioTestCase):
         self.assertIs(caught.exception.code, client.Code.PROOF)
 
     async def test_a_folder(self) -> None:
-        """Files in bundles, one of them by its name, and all of them, while one shard is lost."""
+        """Files in bundles are fetched, one by its name and all together, while one shard is lost."""
         top = pathlib.Path(self.stack.enter_context(tempfile.TemporaryDirectory()))
         files = {"a": b"", "b/c d": b"some file", "b/e": bytes(5_000), "f": b"!" * 80_000, "g": b"the last one"}
         for name, content in files.items():
@@ -197,7 +197,7 @@ class Members(unittest.IsolatedAsyncioTestCase):
 
 
 def lie(said: bytes) -> bytes:
-    """An opening whose symbol has another first byte."""
+    """Return an opening with another first byte of its symbol."""
     place = client.HEAD.size + 42
     if said[client.HEAD.size] != client.OPENING:
         return said

@@ -15,7 +15,7 @@ from walrus import client, executable, frames, loop
 from walrus.refill import refill
 from walrus.serving import ProcessShard
 
-SLOW = 30.0  # seconds in which what must end does, on a busy machine
+SLOW = 30.0  # seconds until anything must have ended, on a busy machine
 loop.wait_without_threads()
 NAME = bytes(range(32))
 
@@ -24,7 +24,7 @@ class ProgramCase(unittest.IsolatedAsyncioTestCase):
     """A test with shards that are processes."""
 
     async def asyncSetUp(self):
-        asyncio.get_running_loop().set_debug(False)  # which takes long
+        asyncio.get_running_loop().set_debug(False)  # debugging is slow
         self.walrus = example_tools.find_walrus()
         self.stack = await self.enterAsyncContext(contextlib.AsyncExitStack())
 
@@ -84,7 +84,7 @@ class OnTheProgram(ProgramCase):
             await shards[3].close()
             shards[3] = await self.shard(3)
             await refill(shards[3], shards[:3], [encoded.identifier, late.identifier], 3, self.walrus)
-            for blob in (encoded, late):  # it holds all three parts, and says so
+            for blob in (encoded, late):  # it reports that it holds all three parts
                 parts = [client.RegisterEntry(blob.identifier, 3), blob.metadata, *blob.slivers[3]]
                 self.assertEqual(await example_tools.codes(shards[3], *parts), [0, 11, 11, 11])
                 self.assertEqual(await example_tools.codes(shards[3], client.Ack(blob.identifier)), [12])
@@ -111,7 +111,7 @@ class OnTheProgram(ProgramCase):
             entries = [frames.AttestEntry(number, bad.identifier) for number in range(4)]
             self.assertIn(14, await example_tools.codes(shard, *entries))
             self.assertEqual(await example_tools.codes(shard, frames.Forget(bad.identifier)), [0])
-        with self.assertRaises(client.Refused) as caught:  # no sliver is left, and the proof says why
+        with self.assertRaises(client.Refused) as caught:  # no sliver is left, and the proof shows why
             await client.fetch(shards, bad.identifier, self.walrus)
         self.assertEqual(caught.exception.status, 3)
         await shards[2].close()
@@ -120,7 +120,7 @@ class OnTheProgram(ProgramCase):
         self.assertEqual(await example_tools.codes(shards[2], proof), [11])
 
     async def test_what_a_front_refuses_a_shard_refuses(self):
-        """`refuse` answers faults as `walrus serve` does."""
+        """`refuse` gives the same answers to faults as `walrus serve`."""
         shard, shape = await self.shard(0), client.Shape(1)
         faults = [bytes.fromhex(digits) for digits, _ in test_walrus_frames.FAULTS]
         faults += map(frames.write_frame, (test_walrus_frames.FRAMES[2][0], client.Answer(0, 1, 0)))
@@ -131,7 +131,7 @@ class OnTheProgram(ProgramCase):
 
 
 class Errors(ProgramCase):
-    """What an error says: by shard the request and its answer in words, or the fault."""
+    """The texts of errors: for each shard the request and its answer in words, or the fault."""
 
     async def no_quorum(self, shards: list[ProcessShard], encoded: client.Encoded) -> client.NoQuorum:
         with self.assertRaises(client.NoQuorum) as caught:
@@ -145,7 +145,7 @@ class Errors(ProgramCase):
         self.assertEqual(str(full).split("; ")[0], "0 shards acknowledge, of 3 needed")
 
     async def test_a_ledger_without_room(self):
-        """Each shard has room to acknowledge, and not to count that the others do."""
+        """Each shard has room for its own acknowledgement, but not for those of the others."""
         encoded = await self.walrus.encode(b"some blob", 1)
         full = await self.no_quorum(await self.shards(1, "--blobs", "1"), encoded)
         self.assertEqual(full.published, ([0, 1, 2, 3], []))
@@ -162,7 +162,7 @@ class Errors(ProgramCase):
     async def test_words_that_shards_refuse(self):
         encoded = await self.walrus.encode(b"some blob", 1)
         refused = await self.no_quorum(await self.shards(1, "--pages", "0"), encoded)
-        self.assertIn("its process ended with status 2 (it refuses its words)", refused.said[0])
+        self.assertIn("its process ended with status 2 (wrong arguments)", refused.said[0])
         nobody = [ProcessShard(client.Walrus("/nowhere"), 1, number) for number in range(4)]
         self.assertEqual((await self.no_quorum(nobody, encoded)).said[3], "no such file or directory")
 
@@ -204,7 +204,8 @@ class Errors(ProgramCase):
             self.assertEqual(pathlib.Path(name, "runs").read_text(), "run\n" * 2)
 
     async def give_up(self, first: str) -> tuple[asyncio.subprocess.Process, str]:
-        """A run that is given up, of a script whose first process has its output longer, and the number of that one."""
+        """Start a run of a script, and cancel it. The command `first` keeps the script's output open. Returns the
+        script's process and the number of the one that runs `first`."""
         made, create = list[asyncio.subprocess.Process](), asyncio.create_subprocess_exec
 
         async def note(*words, **options):
@@ -227,7 +228,7 @@ class Errors(ProgramCase):
             return made[0], begun.read_text()
 
     async def test_a_run_that_is_given_up_has_ended(self):
-        """Else asyncio complains of it on standard error, where an interrupt ends its loop."""
+        """Otherwise asyncio complains about it on standard error when an interrupt ends its loop."""
         with mock.patch.object(executable, "LINGERS", SLOW):
             process, _ = await self.give_up("sleep 2")
         self.assertEqual((process.returncode, process.stdout.at_eof()), (-9, True))
@@ -249,7 +250,7 @@ class Errors(ProgramCase):
                 client.Walrus.find(path)
 
     def test_the_script_is_run_once(self):
-        """What it builds is run from then on."""
+        """After that, the program that it builds is run."""
         with tempfile.TemporaryDirectory() as name:
             script, built = pathlib.Path(name) / "walrus", pathlib.Path(name) / "crates" / "walrus" / "out" / "walrus"
             built.parent.mkdir(parents=True)

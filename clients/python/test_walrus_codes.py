@@ -1,7 +1,7 @@
-"""Tests of the codes of refusals, by which programs tell one refusal from another: python3 -m unittest.
+"""Tests of the codes of refusals, by which code distinguishes refusals: python3 -m unittest.
 
-What a text means comes from walrus(1), and the numbers from clients/c/walrus.h. The library that WALRUS_LIBRARY names,
-or that of the checkout, is asked for each row; what is not there is skipped."""
+The meaning of a text comes from walrus(1), the numbers from clients/c/walrus.h. Each row is also compared with the
+library that WALRUS_LIBRARY names, or that of the checkout; without a library these tests are skipped."""
 
 import asyncio
 import os
@@ -30,8 +30,8 @@ from worked import FALSE, HONEST, PRIMARY, SIX_WORDS  # noqa: E402
 LIBRARIES = [pathlib.Path(os.environ["WALRUS_LIBRARY"])] if os.environ.get("WALRUS_LIBRARY") else []
 LIBRARIES = [place for place in LIBRARIES or [TOP / built for built in BUILT] if place.exists()]
 HEADER = TOP / "clients" / "c" / "walrus.h"
-PROOF = b"\x57\x00\x02\x00\x00\x00\x01\x13"  # the front of an envelope, of `recover`
-ROWS: list[tuple[Code, int, bytes]] = [  # texts of walrus(1), and what they tell
+PROOF = b"\x57\x00\x02\x00\x00\x00\x01\x13"  # the beginning of an envelope, from `recover`
+ROWS: list[tuple[Code, int, bytes]] = [  # texts of walrus(1), with their statuses and codes
     (Code.USAGE, 2, b"usage: walrus id F | encode F\n"),
     (Code.REJECT, 3, b"reject\n"),
     (Code.INCONSISTENT, 3, b"inconsistent\n"),
@@ -79,13 +79,13 @@ NONE += [(3, b""), (4, b""), (4, b"No metadata\n"), (4, b" no metadata\n"), (2, 
 
 
 def turned(text: Data) -> bytes:
-    """A text in no language, in which each letter stands for another; turned again it is as it was."""
+    """Return a text with each letter replaced by another one; applied twice, it gives the original text."""
     small, large = b"abcdefghijklmnopqrstuvwxyz", b"ABCDEFGHIJKLMNOPQRSTUVWXYZ"
     return bytes(text).translate(bytes.maketrans(small + large, small[::-1] + large[::-1]))
 
 
 class ForeignEngine:
-    """The program, whose refusals have no word of English: who knows their codes tells them apart, and nobody else."""
+    """The program with refusals that are not in English: they can only be distinguished by their codes."""
 
     def __init__(self, engine: engines.Engine) -> None:
         self.engine = engine
@@ -143,7 +143,7 @@ class InLibrary(unittest.TestCase):
             self.assertIs(library.code(status, text), Code.of(status, text), (status, text))
         for status, text in NONE:
             self.assertIs(library.code(status, text), Code.NONE, (status, text))
-        for code, front in codes.TABLE.items():  # each row alone, and with another byte at its end
+        for code, front in codes.TABLE.items():  # each prefix alone, and with another last byte
             for text in (front, front[:-1], front + b"7\n", front[:-1] + b"?"):
                 self.assertIs(library.code(code // 100, text), Code.of(code // 100, text), (code, text))
 
@@ -158,7 +158,7 @@ class InLibrary(unittest.TestCase):
 
 
 class Kinds(unittest.TestCase):
-    """What is raised tells its kind by the code, whatever the words are."""
+    """The class of an exception is determined by the code, whatever the words are."""
 
     def test_of_the_small_client(self) -> None:
         kinds: dict[type[client.Refused], set[Code]] = {
@@ -184,7 +184,7 @@ class Kinds(unittest.TestCase):
 
 
 class Languages(unittest.IsolatedAsyncioTestCase):
-    """A program that says the same in other words changes nothing."""
+    """A program that refuses in other words changes nothing."""
 
     async def asyncSetUp(self) -> None:
         asyncio.get_running_loop().set_debug(False)

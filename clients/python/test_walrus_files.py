@@ -14,7 +14,7 @@ import example_tools
 from walrus import client, files as walrus_files, front as walrus_front, loop
 
 HERE = pathlib.Path(__file__).resolve().parent
-SLOW = 30.0  # seconds in which what must end does, on a busy machine
+SLOW = 30.0  # seconds until anything must have ended, on a busy machine
 loop.wait_without_threads()
 
 
@@ -61,10 +61,10 @@ class Words(unittest.TestCase):
 
 
 class Commands(unittest.IsolatedAsyncioTestCase):
-    """The command as it is called, beside four shards behind fronts."""
+    """The command as users call it, with four shards behind fronts."""
 
     async def asyncSetUp(self):
-        asyncio.get_running_loop().set_debug(False)  # which takes long
+        asyncio.get_running_loop().set_debug(False)  # debugging is slow
         self.walrus = example_tools.find_walrus()
         stack = await self.enterAsyncContext(contextlib.AsyncExitStack())
         self.folder = pathlib.Path(stack.enter_context(tempfile.TemporaryDirectory()))
@@ -74,7 +74,7 @@ class Commands(unittest.IsolatedAsyncioTestCase):
         self.places = [f"127.0.0.1:{(await front.open()).port}" for front in fronts]
 
     async def run_command(self, *words: object, terminal: bool = False) -> tuple[int | None, bytes, str]:
-        """The status, what was printed, and what was said on standard error, which may be a terminal."""
+        """Run the command; return its status, output and standard error, which may be a terminal."""
         pipe, (ours, theirs) = asyncio.subprocess.PIPE, pty.openpty()
         told = [sys.executable, "-m", "walrus.client", *map(str, words)]
         variables = {**os.environ, "WALRUS": self.walrus.path}
@@ -88,7 +88,7 @@ class Commands(unittest.IsolatedAsyncioTestCase):
         return process.returncode, said, shown.decode()
 
     async def run_here(self, *words: object) -> bytes:
-        """What is printed, by the command's own function."""
+        """Call the command's function and return its output."""
         return await walrus_files.run(walrus_files.read_words([str(word) for word in words]))
 
     async def test_a_file(self):
@@ -102,7 +102,7 @@ class Commands(unittest.IsolatedAsyncioTestCase):
             self.assertEqual(fetched, example_tools.SIX_WORDS)
 
     async def test_a_folder(self):
-        """Files come back with their names, and where standard error is a terminal it says how far it is."""
+        """Files come back with their names, and if standard error is a terminal it shows the progress."""
         files = {"a": b"", "b/c d": b"some blob", "b/e/f": bytes(5_000)}
         for name, content in files.items():
             place = self.folder / "folder" / name

@@ -1,7 +1,8 @@
 """Tests of how the library and the program are found, by the package and by the small client, and installed by pip.
 
-The library is that of the variable WALRUS_LIBRARY, or of the checkout; the program that of WALRUS, or of the checkout.
-What is not there is skipped. What is expected comes from tests/worked.py, which is no part of either."""
+The library is the one that WALRUS_LIBRARY names, or that of the checkout; the program the one that WALRUS names, or
+that of the checkout. Tests of one that is missing are skipped. Expected values come from the independent
+tests/worked.py."""
 
 import asyncio
 import os
@@ -25,7 +26,7 @@ DEBIAN = pathlib.Path("/usr/bin/python3")
 @unittest.skipUnless(LIBRARIES, "the library is not built")
 class SmallClient(unittest.TestCase):
     def test_small_client_over_the_library(self) -> None:
-        """What the small client has the program do, the library does in its process."""
+        """The library in this process does what the program does for the small client."""
         found = walrus_library.find(str(LIBRARIES[0]))
         self.assertIsInstance(found, walrus_library.InProcess)
         made = asyncio.run(found.encode(SIX_WORDS, 1, 2))
@@ -41,7 +42,7 @@ class SmallClient(unittest.TestCase):
 
 class Finding(unittest.TestCase):
     def said(self, python: pathlib.Path, code: str, **variables: str) -> str:
-        """What Python prints in a folder that is nowhere near, with no variables of ours but these."""
+        """Return what Python prints in an unrelated folder, with only these variables of the project."""
         kept = {name: value for name, value in os.environ.items() if not name.startswith(("WALRUS", "PYTHON"))}
         kept |= {"PATH": "/usr/bin:/bin", **variables}
         ran = subprocess.run([python, "-c", code], env=kept, capture_output=True, text=True, timeout=SECONDS, cwd="/")
@@ -63,7 +64,7 @@ class Finding(unittest.TestCase):
         self.assertEqual([*map(walrus_library.is_library, named)], [True, True, False, False, False])
 
     def test_pip_installs_it(self) -> None:
-        """Into a virtual environment, from the checkout and without a network; the wheel carries the library."""
+        """Into a virtual environment, from the checkout and without a network; the wheel includes the library."""
         with tempfile.TemporaryDirectory() as folder:
             made = subprocess.run([DEBIAN, "-m", "venv", folder], capture_output=True, text=True, timeout=SECONDS)
             if made.returncode:

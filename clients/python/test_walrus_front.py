@@ -59,7 +59,7 @@ class Words(unittest.TestCase):
 
     def test_words_of_the_shard(self):
         walrus = example_tools.find_walrus().path
-        line = "walrus.front: shard 0: the shard ended with status 2 (it refuses its words)"
+        line = "walrus.front: shard 0: the shard ended with status 2 (wrong arguments)"
         self.assertEqual(run_front(walrus, 1, 0, "--pages", 0), (2, b"", [line]))
         self.assertEqual(run_front(walrus, 1, 4), (2, b"", [line.replace("shard 0", "shard 4")]))
 
@@ -154,7 +154,7 @@ class Ends(unittest.IsolatedAsyncioTestCase):
             async with client.SocketShard(0, 1, ("127.0.0.1", port), SLOW) as shard:
                 with self.assertRaisesRegex(ConnectionError, "it ended"):
                     await shard.ask(client.write_frame(client.Read(bytes(32))))
-            line = "walrus.front: shard 0: the shard ended with status 9 (its 1,073,741,824 bytes came)"
+            line = "walrus.front: shard 0: the shard ended with status 9 (1,073,741,824 bytes of requests came)"
             self.assertEqual(await self.end(), [line])
             self.assertEqual(self.front.returncode, 9)
 

@@ -11,15 +11,15 @@ from walrus import client, frames, front as walrus_front, loop, port as walrus_p
 
 loop.wait_without_threads()
 
-SLOW = 30.0  # seconds in which what must end does, on a busy machine
+SLOW = 30.0  # seconds until anything must have ended, on a busy machine
 DONE = client.Answer(0, 9, 0)
 
 
 class Connections(unittest.IsolatedAsyncioTestCase):
-    """A front of this process."""
+    """A front in this process."""
 
     async def asyncSetUp(self):
-        asyncio.get_running_loop().set_debug(False)  # which takes long
+        asyncio.get_running_loop().set_debug(False)  # debugging is slow
         self.walrus, self.told, self.kept = example_tools.find_walrus(), list[str](), list[client.Streams]()
         self.stack = await self.enterAsyncContext(contextlib.AsyncExitStack())
 
@@ -36,14 +36,14 @@ class Connections(unittest.IsolatedAsyncioTestCase):
 
     async def send(self, front: walrus_front.Front, data: bytes) -> client.Streams:
         reader, writer = await asyncio.open_connection("127.0.0.1", front.port)
-        self.kept.append((reader, writer))  # a reader that nobody has ends its connection
+        self.kept.append((reader, writer))  # a reader without a reference ends its connection
         self.stack.callback(writer.transport.abort)
         writer.write(data)
         return reader, writer
 
     async def test_side_by_side(self):
         front, encoded = await self.open(), await self.walrus.encode(example_tools.SIX_WORDS, 1)
-        await self.send(front, client.envelope(b"\x22")[:7])  # part of a request, which holds nobody up
+        await self.send(front, client.envelope(b"\x22")[:7])  # part of a request, which delays no other client
         one, two = await self.connect(front), await self.connect(front)
         parts = [client.RegisterEntry(encoded.identifier, 9), encoded.metadata, *encoded.slivers[2]]
         self.assertEqual(await example_tools.codes(one, *parts, client.Ack(encoded.identifier)), [0, 0, 0, 0, 13])
@@ -54,7 +54,7 @@ class Connections(unittest.IsolatedAsyncioTestCase):
             await two.ask(client.write_frame(client.Read(encoded.identifier)))
 
     async def test_what_is_no_request_is_not_forwarded(self):
-        """It is answered as the shard would, and said once; the bytes of a process last."""
+        """It is answered as the shard would, and logged once; it does not use up the bytes that a process accepts."""
         front = await self.open()
         begun = front.forwarded
         shard = await self.connect(front)
@@ -79,7 +79,7 @@ class Connections(unittest.IsolatedAsyncioTestCase):
 
     async def test_a_client_that_is_cut_off_is_named(self):
         front = await self.open(seconds=1.0)
-        for sent in (b"", b"GET / HTTP/1.1\r\n\r\n", client.envelope(bytes(99))[:-1]):  # the first one is idle alone
+        for sent in (b"", b"GET / HTTP/1.1\r\n\r\n", client.envelope(bytes(99))[:-1]):  # the first one is only idle
             reader, _ = await self.send(front, sent)
             async with asyncio.timeout(SLOW):
                 with contextlib.suppress(ConnectionError):
@@ -108,7 +108,7 @@ class Connections(unittest.IsolatedAsyncioTestCase):
         self.assertEqual(await example_tools.codes(again, client.Read(encoded.identifier)), [0])
 
     async def test_connections_are_bounded_and_who_comes_is_served(self):
-        """Three that wait take all there are; who had replies is cut off last, and connects again."""
+        """Three waiting clients take all connections; one that had replies is cut off last, and connects again."""
         front = await self.open(connections=3)
         shard = await self.connect(front)
         entry = client.RegisterEntry(bytes(32), 9)
@@ -125,7 +125,7 @@ class Connections(unittest.IsolatedAsyncioTestCase):
         self.assertEqual(await example_tools.codes(shard, entry), [0])
 
     async def test_what_is_kept_for_all_is_bounded(self):
-        """Of two that send half a request of a megabyte each, the first one is cut off, and nobody else."""
+        """Of two clients that each send half of a request of a megabyte, only the first one is cut off."""
         front = await self.open(kept=1_500_000)
         shard = await self.connect(front)
         entry = client.RegisterEntry(bytes(32), 9)
@@ -141,7 +141,7 @@ class Connections(unittest.IsolatedAsyncioTestCase):
             while front.kept < 1_048_576:
                 await asyncio.sleep(0.05)
         self.assertRegex(
-            self.told[0], r"^client 127\.0\.0\.1:\d+ is cut off: too much is kept, and it is at it for longest"
+            self.told[0], r"^client 127\.0\.0\.1:\d+ is cut off: too much memory is used, by this client for longest"
         )
         self.assertEqual((front.kept, second.at_eof(), len(front.connections)), (1_048_576, False, 2))
         self.assertEqual(await example_tools.codes(shard, entry), [0])
@@ -163,7 +163,7 @@ class Connections(unittest.IsolatedAsyncioTestCase):
 
 class Leaving(unittest.IsolatedAsyncioTestCase):
     async def test_who_has_left_waits_for_a_turn_among_those_of_its_address(self):
-        asyncio.get_running_loop().set_debug(False)  # which takes long
+        asyncio.get_running_loop().set_debug(False)  # debugging is slow
 
         async def reply(shard: int, request: bytes) -> walrus_port.Said:
             return walrus_port.Said([b""])
@@ -180,7 +180,7 @@ class Leaving(unittest.IsolatedAsyncioTestCase):
 
 class OfOneF(unittest.IsolatedAsyncioTestCase):
     async def test_clients_that_lie_send_what_they_say(self):
-        """What the load sends is what a front is to withstand: two of five are no envelope or too long."""
+        """The load sends requests that a front must withstand: two of five are no envelope or too long."""
         shape, sent = client.Shape(1), liars.false_requests(bytes(32))
         self.assertIsNotNone(frames.refuse(shape, client.split(sent[0])[0][1]))
         self.assertRaises(client.Fault, client.split, sent[1])

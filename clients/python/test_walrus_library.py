@@ -1,7 +1,8 @@
 """Tests of the package `walrus`, over the shared library and over the program: python3 -m unittest.
 
-The library is that of the variable WALRUS_LIBRARY, or of the checkout; the program that of WALRUS, or of the checkout.
-What is not there is skipped. What is expected comes from tests/worked.py, which is no part of either."""
+The library is the one that WALRUS_LIBRARY names, or that of the checkout; the program the one that WALRUS names, or
+that of the checkout. Tests of one that is missing are skipped. Expected values come from the independent
+tests/worked.py."""
 
 import asyncio
 import mmap
@@ -32,7 +33,7 @@ def register(identifier: bytes) -> bytes:
 
 
 def stored(blob: walrus.Encoded, shard: int) -> list[bytes]:
-    """Requests by which a shard comes to hold a blob."""
+    """Return requests that store a blob at a shard."""
     return [register(blob.identifier), bytes(blob.metadata), *map(bytes, blob.slivers[shard])]
 
 
@@ -41,7 +42,7 @@ def answers(stream: memoryview) -> list[tuple[int, bytes]]:
 
 
 class Calls:
-    """The calls, whatever makes them."""
+    """The calls, with the library or with the program."""
 
     def test_identifier(self) -> None:
         self.assertEqual(walrus.identifier(SIX_WORDS, 1), HONEST.id)
@@ -59,7 +60,7 @@ class Calls:
         for blob in (SIX_WORDS, bytearray(SIX_WORDS), memoryview(SIX_WORDS), *views, mapped):
             with self.subTest(type=type(blob)):
                 self.assertEqual(walrus.identifier(blob, 1), HONEST.id)
-        mapped.close()  # nobody holds it any more
+        mapped.close()  # no view of it is left
         empty = walrus.identifier(b"", 1)
         for blob in (bytearray(), memoryview(around)[3:3]):
             self.assertEqual(walrus.identifier(blob, 1), empty)
@@ -72,11 +73,11 @@ class Calls:
             for shard, (primary, secondary) in enumerate(made.slivers):
                 self.assertEqual(primary, writer.sliver(PRIMARY, shard))
                 self.assertEqual(secondary, writer.sliver(SECONDARY, writer.held[shard]))
-                self.assertIs(primary.obj, made.envelopes.obj)  # a view, and no copy
+                self.assertIs(primary.obj, made.envelopes.obj)  # a view, not a copy
                 self.assertTrue(primary.readonly)
 
     def test_room_is_known(self) -> None:
-        """Every size of an encoding, about the bounds of symbols; and far too little room gives the same."""
+        """The size of an encoding is known, around the bounds of symbols; too little room gives the same result."""
         engine = walrus.engine()
         for size in (0, 1, 11, 12, 13, 24, 25, 40_000):
             for faults in (1, 2, 5):
@@ -89,8 +90,8 @@ class Calls:
             self.assertEqual(walrus.run("encode", 1, data=SIX_WORDS, room=room), (0, HONEST.envelopes()))
 
     def test_room_that_is_had(self) -> None:
-        """A read has the room that is enough: the size of its input, and at least that of a line. What may take
-        more than the longest blob has no more than is enough, too: 16,995,370 bytes for `recover`."""
+        """A read gets the room that the library reports: the size of its input, and at least that of a line. A result
+        that may be longer than the longest blob gets no more than that, too: 16,995,370 bytes for `recover`."""
         if not isinstance(walrus.engine(), walrus.Library):
             self.skipTest("the program has no room")
         long = HONEST.envelopes() + envelope(0, bytes(16_999_999))
@@ -166,7 +167,7 @@ class Calls:
         self.assertEqual(caught.exception.code, Code.TOO_MANY_MEMBERS)
 
     def test_one_call_is_enough(self) -> None:
-        """The library says the room of an answer to many draws, which is longer than the input, and of a bundle."""
+        """The library reports the room for an answer to many draws, longer than the input, and for a bundle."""
         engine = walrus.engine()
         if not isinstance(engine, walrus.Library):
             self.skipTest("a process needs no room")
@@ -245,7 +246,7 @@ class Calls:
             walrus.run("id\0")
 
     def test_threads(self) -> None:
-        """Eight at once, each with blobs of its own: all have what they have alone."""
+        """Eight threads at once, each with its own blobs, get the same results as alone."""
         blobs = [bytes([thread]) * (1000 + 7000 * thread) for thread in range(8)]
         alone, together = [walrus.identifier(blob, 1) for blob in blobs], [[b""]] * 8
 

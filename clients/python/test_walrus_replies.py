@@ -1,4 +1,4 @@
-"""Tests of what the client takes for a reply, and of shards that lie: python3 -m unittest, in this folder."""
+"""Tests of what the client accepts as a reply, and of shards that lie: python3 -m unittest, in this folder."""
 import asyncio
 import contextlib
 import unittest
@@ -10,12 +10,12 @@ from walrus import client, frames, loop as walrus_loop
 
 walrus_loop.wait_without_threads()
 
-SLOW = 30.0  # seconds in which what must end does, on a busy machine
+SLOW = 30.0  # seconds until anything must have ended, on a busy machine
 NAME = bytes(range(32))
 
 
 class SaidShard(client.Shard):
-    """A shard of which it is known beforehand what it says."""
+    """A shard with predetermined output."""
 
     def __init__(self, said: bytes) -> None:
         super().__init__(0, 1, 0.2)
@@ -33,7 +33,7 @@ class SaidShard(client.Shard):
 
 
 class SentTransport(asyncio.Transport):
-    """What is sent to nobody."""
+    """Records what is sent."""
 
     def __init__(self) -> None:
         super().__init__()
@@ -88,7 +88,7 @@ class Replies(unittest.IsolatedAsyncioTestCase):
             self.assertEqual(b"".join(shard.sent), client.envelope(self.read))
 
     async def test_what_answers_a_store_is_short(self):
-        """Else a node that lies has some longest payloads in memory for each small blob that it is sent."""
+        """Otherwise a lying node could put several longest payloads into memory for each small blob that it is sent."""
         clash, head = frames.write_frame(frames.Texts(b"a" * 65, b"b" * 65)), client.HEAD.pack(client.MARK, 0, 134)
         for request in ([b"a blob"], frames.write_frame(client.Ack(NAME))):
             self.assertEqual((await shard_that_says(clash).ask(request))[0].end, client.Clash(clash))
@@ -112,15 +112,15 @@ class Replies(unittest.IsolatedAsyncioTestCase):
 
 
 class Liars(unittest.IsolatedAsyncioTestCase):
-    """Shards that lie, beside those that reply as honest ones would."""
+    """Shards that lie, together with shards that reply honestly."""
 
     async def asyncSetUp(self):
-        asyncio.get_running_loop().set_debug(False)  # which takes long
+        asyncio.get_running_loop().set_debug(False)  # debugging is slow
         self.walrus = example_tools.find_walrus()
         self.stack = await self.enterAsyncContext(contextlib.AsyncExitStack())
 
     async def ports(self, encoded: client.Encoded, faults: int, ways: Iterable[str]) -> list[int]:
-        """All shards: the first ones lie so, and the others have the blob."""
+        """Return the ports of all shards: the first ones lie in these ways, the others have the blob."""
         shape, ways = client.Shape(faults), list(ways)
         served: list[liars.Served] = [liars.Liar(number, shape, way) for number, way in enumerate(ways)]
         served += [liars.Honest(number, shape, encoded) for number in range(len(ways), shape.shards)]
@@ -138,7 +138,7 @@ class Liars(unittest.IsolatedAsyncioTestCase):
                     self.assertEqual(await client.fetch(shards, encoded.identifier, self.walrus), b"some blob")
 
     async def test_six_of_nineteen_that_pad(self):
-        """Eighteen payloads of 8 MB, or as long as this f has them, were too long for one read."""
+        """Eighteen payloads of 8 MB, or of the longest length for this f, were too long for one read."""
         encoded = await self.walrus.encode(b"some blob", 6)
         for way in liars.Liar.PADS:
             ports = await self.ports(encoded, 6, [way] * 6)
@@ -146,7 +146,7 @@ class Liars(unittest.IsolatedAsyncioTestCase):
                 self.assertEqual(await client.fetch(shards, encoded.identifier, self.walrus), b"some blob")
 
     async def test_silent_ones_cost_one_deadline(self):
-        """One after the other they would take more seconds than there are."""
+        """One after the other they would take more seconds than the test allows."""
         encoded = await self.walrus.encode(b"some blob", 10)
         ports = await self.ports(encoded, 10, ["silent"] * 10)
         async with asyncio.timeout(SLOW), liars.connect(ports, 10, 3.1) as shards:
@@ -154,14 +154,14 @@ class Liars(unittest.IsolatedAsyncioTestCase):
             self.assertEqual(await client.fetch(shards, encoded.identifier, self.walrus), b"some blob")
 
     async def test_false_slivers_do_not_hold_up_a_read(self):
-        """Four silent ones never reply, and one lies: what is there is enough, and is read before any deadline."""
+        """One shard lies and another never replies: the others are enough, and are read before any deadline."""
         encoded = await self.walrus.encode(b"some blob", 2)
         ports = await self.ports(encoded, 2, ["repeat", "silent"])
         async with asyncio.timeout(SLOW), liars.connect(ports, 2, 10 * SLOW) as shards:
             self.assertEqual(await client.fetch(shards, encoded.identifier, self.walrus), b"some blob")
 
     async def test_the_load(self):
-        """A short share of what `liars.py` tries for a minute."""
+        """A short run of the load that `liars.py` makes for a minute."""
         self.assertGreater(await liars.try_load(self.walrus, 4), 0)
 
 

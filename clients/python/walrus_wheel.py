@@ -1,8 +1,8 @@
-"""Makes the wheel, for pip: the package `walrus`, with the client and the network. It wants nothing that must be loaded
-from elsewhere; the network's commands then want aiohttp and cryptography.
+"""Builds the wheel of the package `walrus`, with the client and the network, for pip. The build needs nothing from
+elsewhere; the network's commands need aiohttp, cryptography and prometheus-client when they run.
 
-The shared library goes into the wheel where one is built: that of the variable WALRUS_LIBRARY, or of the checkout.
-Without it the wheel fits every machine, and its calls run the program `walrus`."""
+The wheel includes the shared library if there is one: the file that the variable WALRUS_LIBRARY names, or the one that
+was built in the checkout. Without it the wheel fits every machine, and its calls run the program `walrus`."""
 
 import base64
 import hashlib
@@ -17,11 +17,11 @@ from walrus.engines import BUILT
 
 HERE = pathlib.Path(__file__).resolve().parent
 TOP = HERE.parents[1]
-WHEN = 1980, 1, 1, 0, 0, 0  # of each file, so that the same sources give the same wheel
+WHEN = 1980, 1, 1, 0, 0, 0  # the time of each file, so that the same sources give the same wheel
 
 
 def library() -> Optional[pathlib.Path]:
-    """The shared library that the wheel carries."""
+    """Return the path of the shared library to include, or None. Raises if the file WALRUS_LIBRARY names is missing."""
     named = os.environ.get("WALRUS_LIBRARY")
     places = [pathlib.Path(named)] if named else [TOP / built for built in BUILT]
     found = [place for place in places if place.is_file()]
@@ -31,7 +31,7 @@ def library() -> Optional[pathlib.Path]:
 
 
 def contents() -> dict[str, bytes]:
-    """The files of the packages by their names in the wheel."""
+    """Return the contents of the package's files by their names in the wheel."""
     files = {
         str(it.relative_to(HERE)): it
         for it in (HERE / "walrus").rglob("*")
@@ -44,7 +44,7 @@ def contents() -> dict[str, bytes]:
 
 
 def record(files: dict[str, bytes], name: str) -> bytes:
-    """The wheel's list of its files, with their digests."""
+    """Return the wheel's RECORD, the list of its files with their digests; `name` is that of the list itself."""
     digests = {file: base64.urlsafe_b64encode(hashlib.sha256(data).digest()) for file, data in files.items()}
     lines = [f"{file},sha256={digests[file].decode().rstrip('=')},{len(data)}" for file, data in files.items()]
     return "\n".join([*lines, f"{name},,", ""]).encode()
@@ -53,7 +53,7 @@ def record(files: dict[str, bytes], name: str) -> bytes:
 def build_wheel(
     wheel_directory: str, config_settings: Optional[dict[str, str]] = None, metadata_directory: Optional[str] = None
 ) -> str:
-    """Makes the wheel in this folder; its name."""
+    """Build the wheel in this folder and return its name (PEP 517)."""
     project = tomllib.loads((HERE / "pyproject.toml").read_text(encoding="utf-8"))["project"]
     version = (TOP / "VERSION").read_text(encoding="utf-8").strip()
     files, front = contents(), f"{project['name'].replace('-', '_')}-{version}"

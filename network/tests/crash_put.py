@@ -1,4 +1,4 @@
-"""Puts parts into the store of a node and says which are on the disk, for tests that end it or its disk on the way."""
+"""Puts parts into the store of a node and prints which are on the disk, for tests that kill it or fail calls."""
 import asyncio
 import contextlib
 import os
@@ -19,7 +19,7 @@ def content(blob: int, part: int, size: int, again: int) -> bytes:
 
 
 async def put(store: Store, blob: int, part: int, size: int, again: int) -> None:
-    """Puts a part, in a file where it is long; a second one in place of one that went wrong."""
+    """Put a part, in a file if it is long; if `again`, in place of one that is marked wrong."""
     payload, identifier, holding = content(blob, part, size, again), bytes([blob]) * 32, store.holding(0, 0) or 0
     try:
         file = store.files.write(identifier, payload)[0] if size > 1_000 else None
@@ -28,7 +28,7 @@ async def put(store: Store, blob: int, part: int, size: int, again: int) -> None
         store.put(holding, 0, identifier, part, payload, file)
         written = store.written()
         if written is None or await written:
-            with contextlib.suppress(OSError):  # its call may be the one that fails: then this is not said
+            with contextlib.suppress(OSError):  # this call may be the one that fails
                 os.write(1, f"{blob} {part} {size} {again}\n".encode())
     except (OSError, sqlite3.Error) as fault:
         print("not stored:", fault, file=sys.stderr)
@@ -42,7 +42,7 @@ async def main() -> None:
         for step in STEPS:
             await put(store, *step, 0)
         await put(store, *STEPS[1], 1)
-        await asyncio.sleep(0.01)  # in which the file that another replaced goes
+        await asyncio.sleep(0.01)  # for the removal of the replaced file
     store.close()
 
 

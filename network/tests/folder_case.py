@@ -1,4 +1,4 @@
-"""What the tests of folders share: folders as tars and forms, honest and hostile ones."""
+"""What the tests of folders share: folders as tars and forms, correct and hostile ones."""
 import io
 import random
 import tarfile
@@ -8,7 +8,7 @@ import harness  # noqa: F401  # which says where walrus is
 from walrus.network.manifest import MARK, Place
 
 Files = dict[str, bytes]
-HOSTILE: dict[str, tuple[str, str]] = {  # what cannot be in a folder: its name in a tar, and what is said of it
+HOSTILE: dict[str, tuple[str, str]] = {  # what cannot be in a folder: its name in a tar, and a part of the error
     "leaves": ("../out", "no path within the folder"),
     "leaves later": ("a/../../out", "no path within the folder"),
     "absolute": ("/etc/passwd", "begins with a slash"),
@@ -24,7 +24,7 @@ HOSTILE: dict[str, tuple[str, str]] = {  # what cannot be in a folder: its name 
 
 
 def tar_of(files: Union[Files, Iterable[tuple[str, bytes]]], form: int = tarfile.PAX_FORMAT) -> bytes:
-    """A tar of these files."""
+    """Returns a tar of these files."""
     out = io.BytesIO()
     with tarfile.open(fileobj=out, mode="w", format=form, errors="surrogateescape") as made:
         for path, data in files.items() if isinstance(files, dict) else files:
@@ -35,7 +35,7 @@ def tar_of(files: Union[Files, Iterable[tuple[str, bytes]]], form: int = tarfile
 
 
 def odd_tar(kind: bytes, name: str = "odd", link: str = "", size: int = 0, before: bytes = b"") -> bytes:
-    """A tar of a file, and of an entry of another kind."""
+    """Returns a tar of a file, and of an entry of another kind."""
     out = io.BytesIO()
     with tarfile.open(fileobj=out, mode="w") as made:
         file = tarfile.TarInfo("before")
@@ -48,7 +48,7 @@ def odd_tar(kind: bytes, name: str = "odd", link: str = "", size: int = 0, befor
 
 
 def form_of(files: Files) -> tuple[str, bytes]:
-    """The media type and the bytes of a form of these files."""
+    """Returns the media type and the bytes of a form of these files."""
     bound = "folder-boundary"
     parts = [
         f'--{bound}\r\nContent-Disposition: form-data; name="f"; filename="{path}"\r\n'
@@ -63,7 +63,7 @@ def manifest_of(*places: Place) -> bytes:
 
 
 def site() -> Files:
-    """A small site: pages, a picture, what is empty, and a film that is longer than what is packed."""
+    """Returns a small site: pages, a picture, an empty file, and a film that is too long for a pack."""
     page = '<!DOCTYPE html><title>A site</title><link rel=stylesheet href="style.css"><h1>Here</h1>'
     return {
         "index.html": page.encode(),

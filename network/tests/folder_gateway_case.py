@@ -1,4 +1,4 @@
-"""What the tests of folders at a gateway share: a gateway to which folders come, and from which they are read."""
+"""What the tests of folders at a gateway share: a gateway that stores folders and serves them."""
 from typing import Any
 
 from folder_case import Files
@@ -9,7 +9,7 @@ TAR = {"Content-Type": "application/x-tar"}
 
 
 class FolderGatewayCase(GuardCase):
-    """A gateway whose blobs are in memory: their identifiers are their SHA-256 here."""
+    """A gateway whose blobs are in memory. Their identifiers are their SHA-256 here."""
 
     async def put_folder(self, data: bytes, status: int = 201, kind: str = TAR["Content-Type"], **words: Any) -> Any:
         words["headers"] = {"Content-Type": kind, **words.get("headers", {})}

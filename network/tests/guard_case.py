@@ -14,7 +14,7 @@ EVIL = {"Origin": "http://evil.example"}
 
 
 def other_address() -> str:
-    """An address of this machine that others reach; nothing where there is none."""
+    """Returns an address of this machine that others reach, or nothing if it has none."""
     with socket.socket(socket.AF_INET, socket.SOCK_DGRAM) as asked:
         try:
             asked.connect(("192.0.2.1", 9))  # nothing is sent
@@ -25,7 +25,7 @@ def other_address() -> str:
 
 
 class GuardCase(LedgerCase):
-    """A gateway. What is stored comes to `stored`, and what is there is in `files` by its identifier."""
+    """A gateway. `stored` has what was stored through it; `files` has what can be read, by identifier."""
 
     async def asyncSetUp(self) -> None:
         await super().asyncSetUp()
@@ -35,7 +35,7 @@ class GuardCase(LedgerCase):
         self.session = await self.enterAsyncContext(aiohttp.ClientSession())
 
     async def start(self, host: str = "127.0.0.1", port: int = 0, **options: Any) -> None:
-        """Starts a gateway at the URL `url`."""
+        """Starts a gateway, whose URL goes to `url`."""
         self.enterContext(mock.patch.object(reading.Reader, "fetch", self.fetch))
         self.gateway = Gateway(self.network, self.folder, Options(challenge=0, probe=60, **options))
         self.addAsyncCleanup(self.gateway.close)
@@ -57,13 +57,13 @@ class GuardCase(LedgerCase):
         return self.files[name.hex()]
 
     def token(self, name: str, rights: str = "read,store", **bounds: int) -> dict[str, str]:
-        """Makes a token; the header that shows it."""
+        """Makes a token, and returns the header with it."""
         told = {"rights": tokens.rights_of(rights), **bounds}
         made = tokens.change_token(self.folder / "tokens.json", name, told)
         return {"Authorization": f"Bearer {made}"}
 
     async def ask(self, method: str, path: str, **words: Any) -> tuple[int, dict[str, str], Any]:
-        """The status, the headers and the body of a request."""
+        """Sends a request, and returns the status, headers and body of the response."""
         async with self.session.request(method, self.url + path, **words) as said:
             body = await said.read()
             kind = said.headers.get("Content-Type", "")

@@ -1,4 +1,4 @@
-"""What the tests of harm at a gateway share: files that are there, and clients that take little."""
+"""What the tests of harm at a gateway share: stored files, and clients that read slowly or not at all."""
 import asyncio
 import hashlib
 import socket
@@ -7,16 +7,16 @@ from guard_case import GuardCase
 
 
 class HarmCase(GuardCase):
-    """A gateway at which somebody would harm others."""
+    """A gateway at which one client tries to harm others."""
 
     def keep(self, data: bytes) -> str:
-        """The identifier of a blob that is there."""
+        """Makes a blob readable, and returns its identifier."""
         name = hashlib.sha256(data).hexdigest()
         self.files[name] = data
         return name
 
     async def connect(self, said: bytes) -> tuple[asyncio.StreamReader, asyncio.StreamWriter]:
-        """A connection whose client takes little, once it has said this."""
+        """Returns a connection on which this was sent, and whose client receives little."""
         reader, writer = await asyncio.open_connection("127.0.0.1", self.port, limit=4_096)
         writer.get_extra_info("socket").setsockopt(socket.SOL_SOCKET, socket.SO_RCVBUF, 4_096)
         writer.write(said)

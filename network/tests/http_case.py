@@ -35,7 +35,7 @@ class GatewayCase(NetworkCase):
         self.port = await self.gateway.listen()
 
     async def curl(self, path: str, *words: str, data: Optional[bytes] = None) -> Answer:
-        """The status, the headers and the body that curl gets; a body that breaks off has the status 18 of curl."""
+        """Returns the status, headers and body that curl gets; if the body breaks off, the status is curl's 18."""
         out, heads, sent = (self.folder / f"{kind}-{DRAWN.randrange(10**9)}" for kind in ("out", "heads", "sent"))
         if data is not None:
             sent.write_bytes(data)
@@ -63,7 +63,7 @@ class GatewayCase(NetworkCase):
         return await self.curl(f"/v1/blobs/{name}", *words)
 
     async def refused(self, status: int, path: str, *words: str) -> dict[str, Any]:
-        """A request is refused with this status, in a sentence."""
+        """Checks that a request is refused with this status and a sentence."""
         found, headers, body = await self.curl(path, *words)
         self.assertEqual((found, headers.get("content-type")), (status, "application/json; charset=utf-8"), body)
         error: dict[str, Any] = json.loads(body)["error"]
@@ -72,10 +72,10 @@ class GatewayCase(NetworkCase):
 
 
 class UpCase(NetworkCase):
-    """A network with a gateway that the command itself runs."""
+    """A network with a gateway, both run by the command itself."""
 
     async def up(self, *words: str) -> pathlib.Path:
-        """Starts it at the URL `url`, a fresh one; its folder."""
+        """Starts a new network with a gateway, whose URL goes to `url`; returns its folder."""
         folder, port = self.folder / "network", free_port()
         self.url = f"http://127.0.0.1:{port}"
         up = await self.local.spawn("up", str(HERE.parent / "up"), str(folder), "--port", str(port), *words)
@@ -86,7 +86,7 @@ class UpCase(NetworkCase):
         return folder
 
     def process_of(self, folder: pathlib.Path, name: str) -> int:
-        """The process of a node that the command has started."""
+        """Returns the process of a node that the command has started."""
         for path in pathlib.Path("/proc").glob("[0-9]*/cmdline"):
             try:
                 if path.read_bytes().split(b"\0")[-2] == str(folder / f"{name}.toml").encode():
@@ -96,7 +96,7 @@ class UpCase(NetworkCase):
         raise ProcessLookupError(name)
 
     def etcd_of(self, folder: pathlib.Path) -> int:
-        """The process of the network's etcd, which runs in its folder."""
+        """Returns the process of the network's etcd, which runs in its folder."""
         for path in pathlib.Path("/proc").glob("[0-9]*"):
             try:
                 if (path / "cwd").resolve() == folder and (path / "cmdline").read_bytes().startswith(b"etcd\0"):

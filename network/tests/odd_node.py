@@ -1,5 +1,5 @@
-"""A node that lies, is silent, keeps short contents in files, waits for long, or tells odd figures, as its environment
-says."""
+"""A node that lies, is silent, keeps short contents in files, waits another time, or reports odd figures, by its
+environment variables."""
 import asyncio
 import json
 import os
@@ -13,7 +13,7 @@ from walrus.network import figures, follower, handover, intake, node, shard  # n
 
 
 class Liar(node.Node):
-    """Half of its replies are false: a byte of a sliver, an opening or a metadata, or nothing at all."""
+    """Half of its replies are wrong: a byte of a sliver, opening or metadata is changed, or all parts are missing."""
 
     drawn = random.Random(7)
 
@@ -31,7 +31,7 @@ class Liar(node.Node):
 
 
 class Silent(node.Node):
-    """Stores and is read, and gives no symbol: whoever asks waits. It does nothing for a handover."""
+    """Stores blobs and serves reads, but never replies to a request for a symbol, and does nothing for a handover."""
 
     async def route(self, number: int, request: bytes) -> list[bytes]:
         if request[:1] == b"\x21":
@@ -39,8 +39,8 @@ class Silent(node.Node):
         return await super().route(number, request)
 
 
-shard.SMALL = int(os.environ.get("ODD_SMALL", shard.SMALL))  # so that short contents are files too
-if "ODD_PATIENCE" in os.environ:  # seconds for which what was asked of it waits for the ledger
+shard.SMALL = int(os.environ.get("ODD_SMALL", shard.SMALL))  # so that short contents become files too
+if "ODD_PATIENCE" in os.environ:  # seconds for which requests and posts wait for the ledger
     intake.HEARD = float(os.environ["ODD_PATIENCE"])
     follower.Recorders.post.__defaults__ = (intake.HEARD,)
 if "ODD_FIGURES" in os.environ:

@@ -1,4 +1,4 @@
-"""What the tests of the page share: a browser that has it open, over a store in memory."""
+"""What the tests of the page share: a browser that shows it, over a store in memory."""
 import pathlib
 import unittest
 
@@ -11,7 +11,7 @@ SENT = "document.getElementById('sending').textContent"
 
 @unittest.skipUnless(PROGRAM, "chromium is not here (apt-get install chromium)")
 class PageCase(UploadCase):
-    """The page in a browser, at 320 pixels and in the dark."""
+    """The page in a browser, 320 pixels wide and in dark mode."""
 
     size = PIECE
 

@@ -1,4 +1,4 @@
-"""What the tests of shards share: a shard over its disk, and as much of a node as recovers blobs for it."""
+"""What the tests of shards share: a shard with its disk, and the parts of a node that recover blobs for it."""
 import asyncio
 import pathlib
 import random
@@ -19,11 +19,11 @@ from walrus.network.local import find_program
 from walrus.network.store import Store
 from walrus.network.whole import Whole, place, request_of
 
-SMALL, LARGE = 1_000, 3_000  # bytes of the longest content in SQLite, here, and of a blob whose slivers are files
+SMALL, LARGE = 1_000, 3_000  # bytes: the longest content in SQLite here; a blob whose slivers are files
 
 
 class ShardCase(unittest.IsolatedAsyncioTestCase):
-    """Shard 0 of four, over a disk of its own."""
+    """Shard 0 of four, with a disk of its own."""
 
     async def asyncSetUp(self) -> None:
         asyncio.get_running_loop().set_debug(False)
@@ -31,7 +31,7 @@ class ShardCase(unittest.IsolatedAsyncioTestCase):
         self.addCleanup(folder.cleanup)
         self.path = pathlib.Path(folder.name) / "a.db"
         self.enterContext(mock.patch("walrus.network.shard.SMALL", SMALL))
-        self.enterContext(mock.patch("walrus.network.staged.LATER", 99.0))  # nothing is committed of itself
+        self.enterContext(mock.patch("walrus.network.staged.LATER", 99.0))  # nothing is committed by a timer
         self.walrus, self.ledger = client.Walrus(find_program()), Ledger()
         self.judges = Judges(find_program(), 100_000_000)
         self.addCleanup(self.judges.close)
@@ -45,7 +45,7 @@ class ShardCase(unittest.IsolatedAsyncioTestCase):
         self.addAsyncCleanup(end)
 
     def open(self) -> None:
-        """Opens the disk, as a start does."""
+        """Open the disk, as a restart does."""
         self.close()
         self.store, self.damaged = Store(self.path), list[bytes]()
         self.shard = self.side(0)
@@ -65,13 +65,13 @@ class ShardCase(unittest.IsolatedAsyncioTestCase):
         self.assertTrue(self.ledger.apply(Entry(self.ledger.revision + 1, entry_key(poster, kind, *fields))))
 
     async def parts(self, blob: bytes, until: int = 9) -> list[bytes]:
-        """The metadata and the slivers of a registered blob."""
+        """Register a blob and return its metadata and slivers."""
         encoded = await self.walrus.encode(blob, 1)
         self.apply("x", "register", encoded.identifier.hex(), until)
         return [encoded.metadata, *encoded.slivers[0]]
 
     async def put(self, blob: bytes) -> list[bytes]:
-        """Stores a blob's parts."""
+        """Register a blob, store its parts and return them."""
         assert self.store
         parts = await self.parts(blob)
         self.assertEqual([code_of(await self.shard.put(part)) for part in parts], [client.DONE] * 3)
@@ -79,7 +79,7 @@ class ShardCase(unittest.IsolatedAsyncioTestCase):
         return parts
 
     async def whole(self, size: int) -> Whole:
-        """A registered blob, as it comes whole to the shard."""
+        """Register a blob and return the request that brings it whole to the shard."""
         encoded = await self.walrus.encode(bytes(range(250)) * (size // 250), 1)
         self.apply("x", "register", encoded.identifier.hex(), 9)
         data = b"".join(map(bytes, request_of(encoded, 0)))
@@ -93,7 +93,7 @@ class ShardCase(unittest.IsolatedAsyncioTestCase):
         return (await self.shard.answer(client.write_frame(client.Read(identifier))))[:-1]
 
     def free(self, part: float) -> Any:
-        """Has so much of the disk free."""
+        """Pretend that this fraction of the disk is free."""
         disk = types.SimpleNamespace(total=10**12, free=int(part * 10**12))
         return mock.patch("walrus.network.shard.shutil.disk_usage", lambda _: disk)
 
@@ -102,7 +102,7 @@ class ShardCase(unittest.IsolatedAsyncioTestCase):
         return sorted(it for it in self.store.files.folder.glob("*/*") if it.is_file())
 
     async def left(self, count: int) -> None:
-        """Waits until so many files are left; a busy disk takes its time."""
+        """Wait until `count` files are left; a busy disk takes its time."""
         for _ in range(2_400):
             if len(self.files()) == count:
                 break
@@ -115,16 +115,16 @@ class ShardCase(unittest.IsolatedAsyncioTestCase):
 
 @unittest.skipIf(lacking(), f"{lacking()} is not here (network/install)")
 class NodeCase(ShardCase):
-    """As much of a node as recovers blobs for shard 0, from others that hold all of each."""
+    """The parts of a node that recover blobs for shard 0, from others that hold all of each blob."""
 
     async def asyncSetUp(self) -> None:
         await super().asyncSetUp()
         self.drawn, self.others = random.Random(5), dict[bytes, client.Encoded]()
-        self.proofs = dict[bytes, bytes]()  # what the others have of a blob in place of slivers
-        self.silence = asyncio.Event()  # for whose end those wait who are silent
+        self.proofs = dict[bytes, bytes]()  # that the others have of a blob instead of slivers
+        self.silence = asyncio.Event()  # silent shards wait for its end
         self.seats = [Other(self, number) for number in range(4)]
         self.enterContext(mock.patch.object(random, "sample", lambda found, count: [*found]))
-        self.enterContext(mock.patch("walrus.shards.LEAST", 99.0))  # nobody is late, however slow this machine is
+        self.enterContext(mock.patch("walrus.shards.LEAST", 99.0))  # no shard is late, however slow this machine is
         self.enterContext(mock.patch("walrus.shards.MOST", 99.0))
 
     async def certified(self, blob: bytes, until: int = 9, of: str = "abc") -> bytes:
@@ -138,7 +138,7 @@ class NodeCase(ShardCase):
         return parts[1][1:33]
 
     def node(self, sides: dict[int, dict[int, shard.Shard]]) -> Any:
-        """As much of a node as a handover needs, which keeps what it posts."""
+        """Return what a handover needs of a node; it collects what it posts."""
         node = types.SimpleNamespace(name="a", store=self.store, ledger=self.ledger, sides=sides, posted=[], vouched=[])
         node.caught_up, node.judges, node.repairs = True, self.judges, judge.Room(10_000_000)
         node.unattested = set[bytes]()
@@ -153,14 +153,14 @@ class NodeCase(ShardCase):
             node.posted.append(key)
 
         async def until(holds: object, seconds: float) -> bool:
-            self.ledger.next = ()  # the move is over, so that the node does its part once
+            self.ledger.next = ()  # ends the handover, so that the node does its part once
             return True
 
         node.recorders, node.until, node.vouch = types.SimpleNamespace(post=post), until, vouch
         return node
 
     async def lacks(self, size: int, certified: bool = True) -> bytes:
-        """A blob that the others have and the shard lacks."""
+        """Register a blob that the others have and the shard lacks, and return its identifier."""
         encoded = await self.walrus.encode(self.drawn.randbytes(size), 1)
         self.apply("x", "register", encoded.identifier.hex(), 9)
         for poster in "bcd" if certified else "":
@@ -170,7 +170,7 @@ class NodeCase(ShardCase):
 
 
 class Other(client.Shard):
-    """A shard of another node, which notes what it is asked in each exchange."""
+    """A shard of another node, which records how many requests came in each exchange."""
 
     def __init__(self, case: NodeCase, number: int):
         super().__init__(number, 1)
@@ -184,7 +184,7 @@ class Other(client.Shard):
         if self.fails:
             raise ConnectionError("it is told to fail")
         if self.clashes:
-            return [client.Reply({}, client.Clash(b"\x31\x01a\x01b"))]  # which ends its reply, whatever was asked
+            return [client.Reply({}, client.Clash(b"\x31\x01a\x01b"))]  # a clash ends a reply, whatever was asked
         encoded = self.case.others[requests[0][1:33]]
         told = [client.write_frame(client.RegisterEntry(encoded.identifier, 9)), encoded.metadata]
         proof = self.case.proofs.get(encoded.identifier)

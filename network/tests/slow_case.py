@@ -1,14 +1,14 @@
-"""What the tests of who is slow share: a network that waits for longer than any test may take."""
+"""What the tests of slow peers share: a network that waits for longer than any test may take."""
 from unittest import mock
 
 from http_case import GatewayCase
 from walrus.network.gateway import Options
 
-LONG, ENOUGH = 1_200.0, 300.0  # seconds for which who is slow is waited for, and in which a test ends else
+LONG, ENOUGH = 1_200.0, 300.0  # seconds for which slow peers are waited for; in which a test ends otherwise
 
 
 class SlowCase(GatewayCase):
-    """A network and a gateway that are patient."""
+    """A network and a gateway with long deadlines."""
 
     options = Options(seconds=1, challenge=0, patience=LONG)
 

@@ -18,7 +18,7 @@ from walrus.network.problems import Problem
 from walrus.network.program import Calls
 from walrus.network.source import Source
 
-ODD = {  # what stands behind multipart/form-data, and the status of what is sent so
+ODD = {  # what follows multipart/form-data, and the status of a body of this type
     "": 415,
     ";": 415,
     "; boundary": 415,
@@ -66,7 +66,7 @@ class Forms(unittest.IsolatedAsyncioTestCase):
 
 
 class Noted(Library):
-    """Notes in which threads it is called."""
+    """Records the threads in which it is called."""
 
     def __init__(self) -> None:
         self.threads = list[threading.Thread]()
@@ -77,7 +77,7 @@ class Noted(Library):
 
 
 class Few(unittest.IsolatedAsyncioTestCase):
-    """Which calls of the program are made in place: short ones of the library, where shards are few."""
+    """Calls run on the event loop if they are short, of the library, and the committee is small; else in a thread."""
 
     def calls(self, engine: Any) -> Calls:
         with mock.patch("walrus.network.program.engine_of", return_value=engine):
@@ -91,7 +91,7 @@ class Few(unittest.IsolatedAsyncioTestCase):
 
     async def test_a_short_call_is_made_in_place_up_to_three_faults(self) -> None:
         made = self.calls(Noted())
-        self.assertFalse(await self.is_here(made))  # before it is known how many there are
+        self.assertFalse(await self.is_here(made))  # the size of the committee is not known yet
         for faults, few in ((0, True), (1, True), (3, True), (4, False), (33, False)):
             with mock.patch.object(network_client.Calls, "of", return_value=made):
                 network = self.network(faults)
@@ -101,10 +101,10 @@ class Few(unittest.IsolatedAsyncioTestCase):
         self.network(1, made)
         self.assertTrue(await self.is_here(made, SHORT - 4_097))
         self.assertFalse(await self.is_here(made, SHORT - 4_096))
-        self.assertFalse(await self.is_here(made, 0, "bundle", 1))  # which may become long
+        self.assertFalse(await self.is_here(made, 0, "bundle", 1))  # its output may be long
 
     def network(self, faults: int, made: Any = None) -> network_client.Network:
-        """A user of a network of which the ledger says so."""
+        """Returns a user of a network, for a committee of this f."""
         access = network_client.Access("x", "walrus", [], "", "", "", "")
         with mock.patch.multiple(network_client, Recorders=mock.DEFAULT, Peers=mock.DEFAULT):
             with contextlib.ExitStack() as stack:
@@ -133,7 +133,7 @@ class Few(unittest.IsolatedAsyncioTestCase):
 
 class Ports(unittest.IsolatedAsyncioTestCase):
     async def test_a_connection_whose_answer_fails_in_any_way_is_let_go(self) -> None:
-        """Nothing counts for it any more, and its client hears of it; others are answered still."""
+        """Nothing counts for it any more, and its client gets an error; others are still answered."""
         faults, unseen = [ZeroDivisionError("unforeseen"), SystemError("unforeseen")], list[object]()
         asyncio.get_running_loop().set_exception_handler(lambda _, told: unseen.append(told["message"]))
 

@@ -1,4 +1,4 @@
-"""How a gateway announces blobs that were badly encoded: over shards and a ledger in memory."""
+"""How a gateway announces badly encoded blobs, over shards and a ledger in memory."""
 import asyncio
 import unittest
 from typing import Any
@@ -14,7 +14,7 @@ BAD, PROOF = b"b" * 32, b"\x13proof"
 
 
 class Shard:
-    """A shard that notes what it is asked, and takes it unless it is told not to."""
+    """A shard that notes its requests, and accepts them unless it is set not to."""
 
     def __init__(self, number: int, said: list[tuple[int, bytes]], refuses: str = ""):
         self.number, self.said, self.refuses, self.taken = number, said, refuses, set[bytes]()
@@ -52,7 +52,7 @@ class Announced(unittest.IsolatedAsyncioTestCase):
         return status, frame
 
     async def until(self, holds: Any, _: float) -> bool:
-        """The ledger shows what three shards attest."""
+        """Makes the ledger show what three shards attest."""
         attest = frames.write_frame(frames.Attest(BAD))
         if sum(attest in it.taken for it in self.seats) >= 3:
             self.invalid.add(BAD)
@@ -75,7 +75,7 @@ class Announced(unittest.IsolatedAsyncioTestCase):
         self.assertEqual([payload for _, payload in proofs], [PROOF] * 4)
         self.assertEqual({payload for _, payload in words}, {frames.write_frame(frames.Attest(BAD))})
         self.assertEqual({it for it, _ in words}, {0, 1, 2, 3})
-        self.announcer.hear(BAD)  # the ledger knows it by now
+        self.announcer.hear(BAD)  # the ledger declares it invalid by now
         self.assertEqual((self.announcer.tasks, self.announcer.counts), ({}, {"declared": 1}))
 
     async def test_each_sliver_is_tried_until_one_shows_it(self) -> None:

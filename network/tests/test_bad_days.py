@@ -1,4 +1,4 @@
-"""Bad days on loopback: clients, disks and clocks; each test ends with the run replayed by the proved core."""
+"""Bad clients, disks and clocks on loopback; at the end of each test the proved core replays the run."""
 import asyncio
 import contextlib
 import re
@@ -29,7 +29,7 @@ class BadDays(NetworkCase):
                 return writer
 
             half = client.HEAD.pack(client.MARK, 0, 8_000_000) + bytes(3_000_000)
-            waiting = [await open_one(half) for _ in range(10)]  # 30 MB, of which 20 may be kept
+            waiting = [await open_one(half) for _ in range(10)]  # 30 MB, of which 20 MB may be kept
             waiting += [await open_one(client.envelope(client.write_frame(client.Read(first)))[:9]) for _ in range(5)]
             for rubbish in (b"GET / HTTP/1.1\r\n\r\n" * 9, bytes(9), b"W" + b"\xff" * 99, client.envelope(b"") * 50):
                 waiting.append(await open_one(rubbish))
@@ -38,7 +38,7 @@ class BadDays(NetworkCase):
             crowd = await asyncio.gather(*(open_one(b"") for _ in range(1_000)), return_exceptions=True)
             self.assertEqual(await network.fetch(first), self.blobs[first])
             await self.store(network)
-            for _ in range(100):  # a handshake that does not come ends after some seconds
+            for _ in range(100):  # a handshake that never comes is ended after some seconds
                 memory, descriptors = usage_of(self.local.processes["node-0"].pid)
                 if descriptors < 300:
                     break
@@ -78,7 +78,7 @@ class BadDays(NetworkCase):
             await self.local.end("node-3")
             path = self.folder / "node-3.db"
             whole = bytearray(path.read_bytes())
-            for place in range(4_096, len(whole) - 40, 1_000):  # what was written is not what is read
+            for place in range(4_096, len(whole) - 40, 1_000):  # so that what is read is not what was written
                 for offset in range(40):
                     whole[place + offset] = 0xA5
             path.write_bytes(whole)
@@ -102,7 +102,7 @@ class BadDays(NetworkCase):
         await self.check()
 
     async def test_a_torn_copy_of_the_ledger_is_made_anew_at_a_start(self) -> None:
-        """Though the torn page is one that no start looks into for its rows."""
+        """Even if the torn page has no row that a start reads."""
         await self.local.up(FOUR)
         async with self.local.network() as network:
             first = await self.store(network)
@@ -133,16 +133,16 @@ class BadDays(NetworkCase):
             await self.store(network)
             hung.send_signal(signal.SIGSTOP)
             for _ in range(6):
-                async with asyncio.timeout(300):  # for less than it would be waited for
+                async with asyncio.timeout(300):  # shorter than the wait would be
                     last = await self.store(network)
                 self.assertEqual(network.ledger.certificate(last), (0, 3))
             hung.send_signal(signal.SIGCONT)
-            for _ in range(150):  # what it did not take is recovered from the others
+            for _ in range(150):  # it recovers from the others what it did not take
                 if len(self.slivers("node-2")) == 2 * len(self.blobs):
                     break
                 await asyncio.sleep(0.2)
             self.assertEqual(len(self.slivers("node-2")), 2 * len(self.blobs), self.logs())
-            self.assertTrue(  # and the node gives its word for it, though no client asks for that any more
+            self.assertTrue(  # and acknowledges it, though no client asks for that any more
                 await network.until(lambda it: all(it.certificate(name) == (0, 4) for name in self.blobs)), self.logs()
             )
             await self.reads_all(network)
@@ -159,7 +159,7 @@ class BadDays(NetworkCase):
             del self.local.processes["twin"]
             await self.store(network)
             await self.local.end("node-1", kill=True)
-            await self.local.start_node("node-1")  # who was killed holds it no more
+            await self.local.start_node("node-1")  # the killed process no longer holds the lock
             await self.reads_all(network)
         await self.check()
 

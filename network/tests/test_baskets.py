@@ -1,4 +1,4 @@
-"""Baskets into which slivers come, and connections that bring them, on each loop that is here."""
+"""Baskets that receive slivers, and the connections over which these arrive, on each event loop that is installed."""
 import asyncio
 import pathlib
 import random
@@ -7,7 +7,7 @@ import tempfile
 import time
 import unittest
 
-import harness  # noqa: F401  # which says where walrus is
+import harness  # noqa: F401  # sets the path to walrus
 from walrus import client, port, wire
 from walrus.network import certificates
 from walrus.baskets import OFFERED, PASSED, Basket
@@ -54,7 +54,7 @@ class Baskets(unittest.IsolatedAsyncioTestCase):
         self.assertEqual(bytes(stream), b"".join(map(client.envelope, [self.small, *self.large[:2]])))
 
     async def test_what_comes_beside_is_read_past_or_has_the_place_of_one_that_is_slow(self) -> None:
-        """So a read has no more memory than for the slivers that it needs, however many it asks for."""
+        """So a read takes memory only for the slivers that it needs, however many it requests."""
         basket = Basket(2, 3, 400_000)
         late = asyncio.create_task(self.take(0, basket))
         self.ends[0][1].write(client.envelope(self.large[0])[:-1])
@@ -72,9 +72,9 @@ class Baskets(unittest.IsolatedAsyncioTestCase):
         self.assertIs(memoryview(stream).obj, basket.memory.obj)
         self.assertEqual(bytes(stream), b"".join(map(client.envelope, wanted)))
         self.ends[0][1].write(self.large[0][-1:] + client.envelope(self.small))
-        self.assertIs(await late, PASSED)  # the memory was somebody else's meanwhile
+        self.assertIs(await late, PASSED)  # its memory had been given to another payload
         self.assertEqual(bytes(stream), b"".join(map(client.envelope, wanted)))
-        self.assertEqual(await self.take(0, basket), self.small)  # nothing is out of step
+        self.assertEqual(await self.take(0, basket), self.small)  # the connection is still in step
 
     async def test_a_payload_that_still_comes_is_no_part_of_it(self) -> None:
         """What the program reads must not change meanwhile."""
@@ -136,7 +136,7 @@ class Baskets(unittest.IsolatedAsyncioTestCase):
         self.assertEqual(bytes(stream), b"".join(map(client.envelope, self.large[:2])))
 
     async def test_what_has_another_length_is_read_past(self) -> None:
-        """Whoever comes first, and as a proof too: so nobody who lies has memory, or keeps it from others."""
+        """Even if it is first, or as long as a proof: so a liar gets no memory, and keeps none from others."""
         basket, long, proof = Basket(1, 2), bytes(500_000), bytes(600_000)
         self.ends[0][1].write(client.envelope(long) + client.envelope(self.small))
         self.assertEqual([await self.take(0, basket) for _ in range(2)], [b"", self.small])
@@ -160,7 +160,7 @@ class Baskets(unittest.IsolatedAsyncioTestCase):
 
 class Loops(unittest.TestCase):
     def test_wires_over_tls(self) -> None:
-        """uvloop has transports of classes of its own."""
+        """uvloop has transport classes of its own."""
         folder = pathlib.Path(self.enterContext(tempfile.TemporaryDirectory()))
         certificates.make_authority(folder / "authority")
         certificates.make(folder / "node-0", folder / "authority", "node-0", ["node-0"])
@@ -169,7 +169,7 @@ class Loops(unittest.TestCase):
                 runner.run(self.converse(folder))
 
     async def converse(self, folder: pathlib.Path) -> None:
-        """Has a request answered by what a basket takes."""
+        """Send a request whose reply a basket receives."""
         own = ssl.create_default_context(ssl.Purpose.CLIENT_AUTH)
         own.load_cert_chain(folder / "node-0.crt", folder / "node-0.key")
         others, large = ssl.create_default_context(cafile=str(folder / "authority.crt")), bytes(range(250)) * 4_000

@@ -1,4 +1,4 @@
-"""What a machine is checked for before its services start, and what a service tells its manager."""
+"""Checks of a machine before its services start, and what a service tells its manager."""
 import asyncio
 import contextlib
 import io

@@ -1,5 +1,5 @@
-"""What a node does beside its answers, where it takes long or the disk fails: it checks pages, sweeps and scrubs. And
-its word, which it says once."""
+"""A node's work besides its replies, if it takes long or the disk fails: checks of pages, sweeps and scrubs. And votes,
+each of which it posts once."""
 import asyncio
 import contextlib
 import io
@@ -16,7 +16,7 @@ import unittest
 from typing import Any
 from unittest import mock
 
-import harness  # noqa: F401  # which says where walrus is
+import harness  # noqa: F401  # so that walrus is found
 from ledger_case import FOUNDED, registration
 from walrus import client
 from walrus.frames import METADATA, PRIMARY, SECONDARY, answer, code_of
@@ -44,7 +44,7 @@ class Start(unittest.TestCase):
         self.enterContext(mock.patch.object(notify, "EACH", 0.01))
 
     def test_a_start_has_more_time_for_as_long_as_pages_are_checked(self) -> None:
-        """Else the service manager ends it in the midst of them, and the next start too, where there are many."""
+        """Otherwise the service manager ends a start in the middle of many pages, and the next one too."""
         heard, database = list[bytes](), Database("")
         self.addCleanup(database.close)
 
@@ -70,7 +70,7 @@ class Start(unittest.TestCase):
 
 class Pages(unittest.IsolatedAsyncioTestCase):
     async def test_a_start_checks_what_names_parts_and_reads_no_content(self) -> None:
-        """So it takes no longer where more bytes are held; a torn page of contents is found where it is read."""
+        """So it takes no longer if more bytes are held; a torn page of contents is found when it is read."""
         folder = pathlib.Path(self.enterContext(tempfile.TemporaryDirectory(prefix="walrus-pages-")))
         store = Store(folder / "whole.db")
         store.begin(0, 0)
@@ -92,7 +92,7 @@ class Pages(unittest.IsolatedAsyncioTestCase):
             store.parts(1, 0, NAMES[0], [METADATA])
 
     async def test_a_torn_page_that_is_written_ends_the_node(self) -> None:
-        """Else it would take nothing, and wait for ever for what must be on the disk."""
+        """Otherwise it would store nothing, and wait for ever for what must be on the disk."""
         self.enterContext(contextlib.redirect_stderr(io.StringIO()))
         path = pathlib.Path(self.enterContext(tempfile.TemporaryDirectory(prefix="walrus-pages-"))) / "a.db"
         store = Store(path)
@@ -104,7 +104,7 @@ class Pages(unittest.IsolatedAsyncioTestCase):
         store.close()
         with open(path, "r+b") as file:
             file.seek(32)
-            free = int.from_bytes(file.read(4), "big")  # the first page of those that are free
+            free = int.from_bytes(file.read(4), "big")  # the first free page
             file.seek(4_096 * (free - 1))
             file.write(b"\xa5" * 4_096)
         told = list[Exception]()
@@ -116,7 +116,7 @@ class Pages(unittest.IsolatedAsyncioTestCase):
 
 
 class DiskCase(unittest.IsolatedAsyncioTestCase):
-    """A disk with some blobs of one shard, and what goes over it."""
+    """A disk with some blobs of one shard, and a scrub of it."""
 
     async def asyncSetUp(self) -> None:
         asyncio.get_running_loop().set_debug(False)
@@ -135,7 +135,7 @@ class DiskCase(unittest.IsolatedAsyncioTestCase):
         self.scrub = Scrub(self.node)
 
     def held(self) -> int:
-        """How many parts there are on the disk."""
+        """Return how many parts the disk has."""
         [(held, contents)] = self.store.base.execute("SELECT (SELECT count(*) FROM held), count(*) FROM contents")
         self.assertEqual(held, contents)
         return int(held)
@@ -157,17 +157,17 @@ class DiskCase(unittest.IsolatedAsyncioTestCase):
 
 class Sweeps(DiskCase):
     async def test_what_a_move_let_go_goes_step_by_step_behind_its_turn_and_nobody_sees_it(self) -> None:
-        """Else who has many badly encoded blobs has all nodes stand still together."""
+        """Otherwise many badly encoded blobs of one publisher make all nodes stand still at the same time."""
         self.store.begin(1, 0)
         for name in NAMES[1:]:
             self.store.forget(1, 1, name)
         with mock.patch.object(store, "BATCH", 4):
-            self.assertFalse(self.store.sweep())  # as the committee of now has it still
+            self.assertFalse(self.store.sweep())  # as the present committee still has it
             self.assertEqual([len(self.store.sizes(1, epoch, NAMES[1])) for epoch in (0, 1)], [3, 1])
             self.store.turn(1)
             self.assertEqual(self.held(), 30)
             self.store.begin(2, 0)
-            self.store.forget(1, 2, NAMES[1])  # anew, before it is swept
+            self.store.forget(1, 2, NAMES[1])  # again, before it is swept
             self.assertEqual([len(self.store.sizes(1, epoch, NAMES[1])) for epoch in (1, 2)], [1, 1])
             self.store.put(1, 2, NAMES[2], PRIMARY, b"anew", None)
             left = list[int]()
@@ -177,7 +177,7 @@ class Sweeps(DiskCase):
         self.assertEqual([len(self.store.sizes(1, 2, name)) for name in NAMES], [3, 1, 2] + [1] * 7)
 
     async def test_what_a_full_disk_does_not_take_is_swept_later(self) -> None:
-        self.store.turn(1)  # by which the shard is here no more
+        self.store.turn(1)  # now the shard is no longer here
         stage, full = self.store.stage, [sqlite3.OperationalError("database or disk is full")]
 
         def staged(words: str, *values: object) -> sqlite3.Cursor:
@@ -190,7 +190,7 @@ class Sweeps(DiskCase):
             await self.until(lambda: not self.held())
 
     async def test_a_sweep_that_is_not_committed_waits_before_it_is_tried_again(self) -> None:
-        """Else it deletes the same over and over, and each time what others have staged is lost with it."""
+        """Otherwise it deletes the same again and again, and each time others lose what they have staged."""
         self.store.turn(1)
         self.assertTrue(await self.store.durable())
         base = self.store.base
@@ -212,7 +212,7 @@ class Sweeps(DiskCase):
 
 class Scrubs(DiskCase):
     async def scrubbed(self, fails: int) -> list[bytes]:
-        """The blobs that a scrub has checked, of which the second one fails so often."""
+        """Return the blobs that a scrub has checked; the check of the second one fails `fails` times."""
         found = list[bytes]()
 
         async def check(identifier: bytes) -> tuple[int, bool]:

@@ -1,4 +1,4 @@
-"""A put that is ended, or whose disk fails, at each of its system calls in turn: a start finds all that was said."""
+"""A put that is killed, or whose disk fails, at each of its system calls in turn: a restart finds all it confirmed."""
 import asyncio
 import contextlib
 import os
@@ -16,12 +16,12 @@ from walrus.network.files import HALF
 from walrus.network.store import Store
 
 CALLS = {"fsync": 1, "fdatasync": 3, "rename": 1, "unlink": 1, "mkdir": 60, "ftruncate": 1, "pwrite64": 9, "write": 7}
-QUICK = "/dev/shm" if os.access("/dev/shm", os.W_OK) else None  # the calls are the same there
-ALL = bool(os.environ.get("CRASH_ALL"))  # else only some of the calls of which there are many
+QUICK = "/dev/shm" if os.access("/dev/shm", os.W_OK) else None  # faster, with the same calls
+ALL = bool(os.environ.get("CRASH_ALL"))  # otherwise only some of the frequent calls
 
 
 def can_trace() -> bool:
-    """Whether a process can be traced here."""
+    """Return whether a process can be traced here."""
     words = ["strace", "-f", "-qq", "-o", "/dev/null", "true"]
     return bool(shutil.which("strace")) and subprocess.run(words, capture_output=True).returncode == 0
 
@@ -32,7 +32,7 @@ class Crash(unittest.IsolatedAsyncioTestCase):
         asyncio.get_running_loop().set_debug(False)
 
     async def tried(self, call: str, number: int, fault: str) -> bool:
-        """Has a call of the put meet its fault; whether there were so many calls. What was said must be there."""
+        """Run a put whose `number`-th call of a kind fails; return if it had that many. What it confirmed must stay."""
         with tempfile.TemporaryDirectory(prefix="walrus-crash-", dir=QUICK) as folder:
             path, log = pathlib.Path(folder) / "a.db", pathlib.Path(folder) / "log"
             words = ["strace", "-f", "-qq", "-o", str(log), "-e", f"trace={call}"]
@@ -46,7 +46,7 @@ class Crash(unittest.IsolatedAsyncioTestCase):
             return met
 
     async def finds(self, path: pathlib.Path, said: list[tuple[int, ...]]) -> None:
-        """A start over what was left has all that was said to be on the disk, and sweeps the rest."""
+        """Assert that a restart finds all that was confirmed, and that a sweep removes the rest."""
         store = Store(path)
         try:
             held = {(it[2], it[3]): it[4] for it in parts_on_disk(store.base, path)}
@@ -65,7 +65,7 @@ class Crash(unittest.IsolatedAsyncioTestCase):
             store.close()
 
     async def each(self, fault: str) -> int:
-        """Tries all calls in turn; how many there were."""
+        """Try all calls in turn; return how many there were."""
         count = 0
         for call, step in CALLS.items():
             number = 1

@@ -1,4 +1,4 @@
-"""What nodes and gateways tell of themselves, and what of one that tells nothing."""
+"""Figures that nodes and gateways report of themselves, and nodes that report none."""
 import asyncio
 import json
 import shutil
@@ -38,7 +38,7 @@ class Figures(GatewayCase):
             self.assertEqual({*groups["recovered"]}, {"epoch", "of", "of_bytes", "blobs", "bytes"})
 
     async def state(self, name: str, state: str, said: str = "") -> None:
-        """Waits until this is what the gateway tells of a node."""
+        """Waits until the gateway reports this state of a node."""
         told: dict[str, Any] = {}
         for _ in range(100):
             nodes = json.loads((await self.curl("/v1/status"))[2])["nodes"]
@@ -63,7 +63,7 @@ class Figures(GatewayCase):
     async def test_a_gateway_that_asks_no_node_any_more_ends(self) -> None:
         await self.local.up(FOUR)
         self.enterContext(mock.patch.object(Watch, "probe", mock.AsyncMock(side_effect=TypeError("an odd reply"))))
-        with self.assertRaisesRegex(RuntimeError, "it asks the nodes no more: TypeError: an odd reply"):
+        with self.assertRaisesRegex(RuntimeError, "it can no longer ask the nodes: TypeError: an odd reply"):
             async with asyncio.timeout(30):
                 await gateway.serve(self.folder, "127.0.0.1", 0, gateway.Options(challenge=0), asyncio.Event())
 

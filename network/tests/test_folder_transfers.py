@@ -1,4 +1,4 @@
-"""walrus-net with folders, at a gateway of this test that may lie: what is stored, what is written, and where."""
+"""walrus-net with folders, at a gateway of this test that may lie: what it stores, what it writes, and where."""
 import asyncio
 import os
 import pathlib
@@ -20,7 +20,7 @@ from walrus.network.transfers import Failure
 
 
 class Places(unittest.TestCase):
-    """Where a path that somebody else chose leads to."""
+    """Paths that somebody else chose do not lead out of a folder."""
 
     def setUp(self) -> None:
         made = tempfile.TemporaryDirectory(prefix="walrus-places-")
@@ -127,7 +127,7 @@ class Trees(unittest.IsolatedAsyncioTestCase):
         return name
 
     async def run_net(self, *words: Union[str, pathlib.Path], status: int = 0) -> str:
-        """What walrus-net says, with this exit status; where it fails, in one line."""
+        """Returns what walrus-net prints; checks its exit status, and that a failure is one line."""
         environment = {**os.environ, "WALRUS_GATEWAY": self.url, "WALRUS": find_program()}
         line = [str(HERE.parent / "walrus-net"), *map(str, words)]
         process = await asyncio.create_subprocess_exec(*line, env=environment, stdout=-1, stderr=-1)
@@ -216,7 +216,7 @@ class Trees(unittest.IsolatedAsyncioTestCase):
         for name, make in kinds.items():
             try:
                 make(self.tree / name)
-            except PermissionError:  # who is not root makes no devices
+            except PermissionError:  # only root can make devices
                 continue
             said = await self.run_net("store", self.tree, "--epochs", "5", status=1)
             self.assertIn(f"'{name}' is a {name}", said)

@@ -1,4 +1,4 @@
-"""What a folder costs of a share, however storing it ends, and where it waits until all of it has come."""
+"""What a folder costs of a share, however storing it ends, and where it waits until all of it has arrived."""
 import asyncio
 import os
 import pathlib
@@ -22,7 +22,7 @@ PIECE = 1_000
 
 
 class Writer:
-    """Stores nothing: what comes is read, and then it is done, or fails, or waits for what never comes."""
+    """Stores nothing: it reads what arrives, and then returns, or fails, or waits for ever."""
 
     def __init__(self) -> None:
         self.network = types.SimpleNamespace(ledger=types.SimpleNamespace(writing_epoch=0))
@@ -63,7 +63,7 @@ class Costing(unittest.IsolatedAsyncioTestCase):
             yield part
 
     def used(self) -> tuple[int, int]:
-        """What a share has lost once all is over."""
+        """Returns what was taken of a share once all is over."""
         self.costs.settle(False, False)
         return self.shares.used("one", 0)
 
@@ -116,7 +116,7 @@ class Costing(unittest.IsolatedAsyncioTestCase):
 
 
 class Spooled(unittest.IsolatedAsyncioTestCase):
-    """What comes of a folder, over a disk that is slow."""
+    """The bytes of a folder as they arrive, over a disk that is slow."""
 
     async def asyncSetUp(self) -> None:
         asyncio.get_running_loop().set_debug(False)
@@ -124,7 +124,7 @@ class Spooled(unittest.IsolatedAsyncioTestCase):
         self.spool = gathering.Spool(0.0)
 
     def held(self, name: str) -> tuple[threading.Event, threading.Event]:
-        """Holds up a call of the system from here on: what is set once it is made, and what lets it go on."""
+        """Blocks a system call from here on. Returns an event that is set once it is made, and one that releases it."""
         made, goes_on, call = threading.Event(), threading.Event(), getattr(os, name)
 
         def slow(*words: Any) -> Any:

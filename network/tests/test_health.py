@@ -1,4 +1,4 @@
-"""How blobs and nodes really are, by what the ledger says, nodes answer and challenges find; and what is a file."""
+"""The health of blobs and nodes, by the ledger, by nodes' answers and by challenges; and which blobs are files."""
 import unittest
 from typing import Any, Optional
 from unittest import mock
@@ -44,7 +44,7 @@ class Shards(unittest.TestCase):
             return {"node": node, "holds": holds, "blob": blob.hex()}
 
         findings = [finding("a", False), finding("a", True), finding("b", True), finding("b", False)]
-        findings += [finding("d", True), finding("c", False, b"1" * 32)]  # the last ones come first
+        findings += [finding("d", True), finding("c", False, b"1" * 32)]  # newest first
         found = health.shards_of(ledger({0, 1, 2}), NAME, nodes(*OWNERS), findings)
         self.assertEqual(found, ["lacking", "held", "held", "held"])
 
@@ -54,7 +54,7 @@ class Storing(unittest.TestCase):
         away = {"stale": False}
         told = health.storing(ledger(), nodes("a", "b", "c"), away)
         self.assertEqual(told, {"possible": True, "why": "", "shards": 3})
-        self.assertTrue(health.storing(ledger(), Nodes({}, {}), away)["possible"])  # nobody was asked yet
+        self.assertTrue(health.storing(ledger(), Nodes({}, {}), away)["possible"])  # no node was asked yet
         told = health.storing(ledger(), nodes("a", "b", "c", b=(5, 5), a=(6, 5)), away)
         self.assertEqual((told["possible"], told["shards"]), (False, 2))
         text = "2 of 4 shards take files, and 3 must: d does not answer; b has no room on the disk"
@@ -68,7 +68,7 @@ class Storing(unittest.TestCase):
 
 class Sorting(unittest.IsolatedAsyncioTestCase):
     def reader(self, blobs: dict[bytes, bytes]) -> Any:
-        """A reader that has these blobs, and notes which are read in full."""
+        """Returns a reader that has these blobs, and notes which are read in full."""
         self.read = list[bytes]()
 
         async def of_blob(name: bytes) -> Optional[int]:
@@ -98,10 +98,10 @@ class Sorting(unittest.IsolatedAsyncioTestCase):
         self.assertEqual(sorter.told(plain), {"size": 5, "pieces": 1})
         self.assertEqual(sorter.told(like), {"size": 88, "pieces": 1})
         self.assertEqual(sorter.told(b"?" * 32), {"size": None, "pieces": None})
-        self.assertEqual({*self.read}, {listed, like})  # what is no list by its length is not read
+        self.assertEqual({*self.read}, {listed, like})  # a blob whose length is not that of a list is not read
 
     async def test_a_list_of_another_poster_hides_no_file(self) -> None:
-        """Else who loses a file could have that go unseen."""
+        """Otherwise anybody could hide that somebody's file is lost."""
         file, other, own = (bytes([number]) * 32 for number in range(1, 4))
         data = File(2**24 + 5, file + own).listed()
         reader = self.reader({file: bytes(99), own: bytes(5), other: data})

@@ -1,4 +1,4 @@
-"""What openapi.yaml and HTTP.md tell of a gateway is what its code does: paths, words, headers, statuses, replies."""
+"""openapi.yaml and HTTP.md agree with the gateway's code: paths, parameters, headers, statuses and replies."""
 import os
 import pathlib
 import re
@@ -18,9 +18,9 @@ except ImportError:
 PACKAGE = pathlib.Path(gateway.__file__).parent
 OWN = "access archives folders forms digests gathering guard gateway listing page problems publishing ranges reading"
 OWN += " shares shelf source uploads"
-NAME = "[A-Z][A-Za-z]*(?:-[A-Z][A-Za-z]*)+"  # of a header, with a hyphen
+NAME = "[A-Z][A-Za-z]*(?:-[A-Z][A-Za-z]*)+"  # the name of a header, with a hyphen
 READ = [rf'headers\.get(?:all)?\("({NAME}|[A-Z][a-z]+)"', rf'"({NAME}|[A-Z][a-z]+)" in request\.headers']
-GENERAL = {"Accept", "Host", "Authorization", "Content-Type", "Content-Length"}  # which HTTP itself has
+GENERAL = {"Accept", "Host", "Authorization", "Content-Type", "Content-Length"}  # headers of HTTP itself
 
 
 def code() -> str:
@@ -35,7 +35,7 @@ class Told(UploadCase):
         self.page = (HERE.parent / "HTTP.md").read_text()
 
     def found(self, it: Any) -> Any:
-        """What stands in the place of a reference."""
+        """Returns what a reference refers to."""
         while "$ref" in it:
             place = it["$ref"].removeprefix("#/").split("/")
             it = self.api
@@ -44,7 +44,7 @@ class Told(UploadCase):
         return it
 
     def asked(self, kind: str) -> dict[tuple[str, str], set[str]]:
-        """The parameters of this kind of each request, by method and path."""
+        """Returns the parameters of this kind of each request, by method and path."""
         told = dict[tuple[str, str], set[str]]()
         for path, methods in self.api["paths"].items():
             shared = methods.get("parameters", [])
@@ -75,7 +75,7 @@ class Told(UploadCase):
             self.assertEqual([it for it in rows if not re.search(it, self.page)], [], "no row of the page tells of it")
 
     def paths(self) -> dict[str, set[str]]:
-        """Each path with something in its places, and the methods that the page tells for it."""
+        """Yields each path with its parameters filled in, and the methods that the page has for it."""
         found = dict[str, set[str]]()
         for path, methods in self.api["paths"].items():
             place = path.replace("{id}", "0" * 64).replace("{number}", "0").replace("{node}", "node-0")
@@ -100,11 +100,11 @@ class Told(UploadCase):
         for path, methods in self.paths().items():
             for method in methods - {"HEAD"}:
                 status, _, told = await self.ask(method, f"{path}?epohcs=1", data=b"x" if method[0] == "P" else None)
-                if method == "GET" and path.startswith("/v1/folders/"):  # pages have words for themselves
+                if method == "GET" and path.startswith("/v1/folders/"):  # pages in folders use parameters of their own
                     self.assertEqual((status, told["error"]["text"][:21]), (404, "the blob is no folder"), path)
                 else:
                     self.assertEqual(status, 400, (method, path, told))
-                    self.assertIn("'epohcs' is no word of this request's query", told["error"]["text"], (method, path))
+                    self.assertIn("'epohcs' is not a query parameter", told["error"]["text"], (method, path))
         self.assertEqual(self.stored, [])
 
     async def test_each_header_is_told(self) -> None:
@@ -126,7 +126,7 @@ class Told(UploadCase):
         self.assertLessEqual({*used, *rows} - general, {*re.findall(r'"(\d{3})":', text)})
 
     def fits(self, schema: Any, value: Any, place: str) -> None:
-        """A reply has what the schema says, and nothing beside it."""
+        """Checks that a reply has what the schema says, and nothing else."""
         known, needed = dict[str, Any](), set[str]()
         for part in [schema, *schema.get("allOf", [])]:
             whole = self.found(part)
@@ -152,7 +152,7 @@ class Told(UploadCase):
             self.assertIn(value, schema.get("enum", [value]), place)
 
     async def replies(self, method: str, path: str, status: int, told: str = "", **words: Any) -> Any:
-        """A request has this status, and a reply as the page tells for it."""
+        """Checks that a request has this status, and a reply as the page describes it."""
         found, _, body = await self.ask(method, path, **words)
         self.assertEqual(found, status, body)
         said = self.found(self.api["paths"][told or path.partition("?")[0]][method.lower()]["responses"][str(status)])

@@ -1,4 +1,4 @@
-"""Blobs that were badly encoded are announced, and what is certified of a broken upload is not stored again."""
+"""Badly encoded blobs are announced, and the certified pieces of a broken upload are not stored again."""
 import asyncio
 import contextlib
 import io
@@ -46,7 +46,7 @@ class Bad(GatewayCase):
         self.assertIn(b'walrus_bad_encodings_total{came="declared"} 1.0\n', (await self.curl("/metrics"))[2])
         good = (await self.put(b"good"))["blobId"]
         self.assertEqual((await self.get(good))[2], b"good")
-        self.assertEqual(len(self.gateway.announcer.findings), 1)  # what is good is never announced
+        self.assertEqual(len(self.gateway.announcer.findings), 1)  # a good blob is never announced
 
     async def test_a_blob_of_an_earlier_committee_is_announced_too(self) -> None:
         await self.start()
@@ -103,7 +103,7 @@ class Going(GatewayCase):
         (self.folder / "file").write_bytes(self.data)
 
     async def serve(self, reader: asyncio.StreamReader, writer: asyncio.StreamWriter) -> None:
-        """Hands on what comes; a large upload breaks off, or stalls, as the plan says."""
+        """Forwards what arrives; a large upload breaks off or stalls as planned."""
         other_reader, other = await asyncio.open_connection("127.0.0.1", self.port)
 
         async def back() -> None:

@@ -1,4 +1,4 @@
-"""Small files that go up together as one bundle, and come back from its columns; what is no form; challenges."""
+"""Small files that are stored as one bundle and read from its columns; malformed forms; challenges."""
 import asyncio
 import json
 import random
@@ -19,7 +19,7 @@ class Bundles(GatewayCase):
     options = Options(seconds=1, challenge=0, patience=60)
 
     async def form(self, *files: bytes, path: str = "/v1/bundles?epochs=5") -> Answer:
-        """What curl gets for a form with these files."""
+        """Sends a form with these files by curl, and returns what curl gets."""
         words: list[str] = []
         for number, data in enumerate(files):
             sent = self.folder / f"part-{number}"
@@ -58,7 +58,7 @@ class Bundles(GatewayCase):
         await self.nodes_that_die_and_lie(told, files)
 
     async def read_all(self, told: dict[str, Any], files: list[bytes]) -> None:
-        """Each file comes as it was, whole and in parts."""
+        """Each file comes back unchanged, whole and in ranges."""
         for it, data in zip(told["members"], files):
             status, headers, body = await self.member(it["id"])
             self.assertEqual((status, headers["etag"]), (200, f'"{it["id"]}"'), body[:200])
@@ -75,7 +75,7 @@ class Bundles(GatewayCase):
         name, alone = told["blobId"], (await self.put(b"no bundle"))["blobId"]
         error = await self.refused(404, f"/v1/bundles/{name}/2")
         self.assertEqual(error["text"], "the bundle has 2 members, whose numbers begin with 0")
-        for _ in range(2):  # read, and known from then on
+        for _ in range(2):  # it is read, and then known
             error = await self.refused(404, f"/v1/bundles/{alone}/0")
             self.assertIn("no bundle", error["text"])
         self.assertEqual((await self.get(alone))[2], b"no bundle")
@@ -86,7 +86,7 @@ class Bundles(GatewayCase):
         await self.refused(404, f"/v1/bundles/{name}")
 
     async def what_does_not_fit(self) -> None:
-        """What cannot be a bundle is refused in a sentence, and nothing is registered."""
+        """A form that cannot be a bundle is refused with a sentence, and nothing is registered."""
         before = len(self.network.ledger.blobs)
         for files, status in (([b"1", b"2", b"3"], 413), ([bytes(9_000_000)] * 2, 413), ([bytes(5_600_000)] * 2, 413)):
             found, _, body = await self.form(*files)
@@ -107,7 +107,7 @@ class Bundles(GatewayCase):
         self.assertEqual(len(self.network.ledger.blobs), before)
 
     async def strange(self, number: int) -> None:
-        """No form, however wrong, causes an error of the gateway's own, or is left without an end."""
+        """No form, however wrong, causes an internal error of the gateway, or is left unanswered."""
         drawn = random.Random(number)
         part = b'--x y\r\nContent-Disposition: form-data; name="a"; filename="b"\r\n\r\n%s\r\n' % drawn.randbytes(9)
         form = bytearray(part * drawn.randrange(4) + b"--x y--\r\n")
@@ -127,7 +127,7 @@ class Bundles(GatewayCase):
         self.assertLessEqual(statuses, {200, 201, 400, 404, 405, 408, 413, 415}, (form, head, said[:300]))
 
     async def say(self, data: bytes) -> bytes:
-        """All that comes back for some bytes, behind which the input ends once an answer had its time."""
+        """Sends bytes, ends the input after a while, and returns all that comes back."""
         reader, writer = await asyncio.open_connection("127.0.0.1", self.port)
         heard = asyncio.create_task(reader.read(-1))
         try:
@@ -141,7 +141,7 @@ class Bundles(GatewayCase):
             writer.transport.abort()
 
     async def nodes_that_die_and_lie(self, told: dict[str, Any], files: list[bytes]) -> None:
-        """Where the holder of a column is gone or lies, the column is recovered from the others."""
+        """If the holder of a column is gone or lies, the column is recovered from the others."""
         for lost in ("node-1", "node-2"):
             await self.local.end(lost, kill=True)
             self.forget()
@@ -155,12 +155,12 @@ class Bundles(GatewayCase):
         await self.challenges(told["blobId"])
 
     def forget(self) -> None:
-        """Empties the cache."""
+        """Empties the cache of the gateway."""
         self.gateway.reader.cache.entries.clear()
         self.gateway.reader.cache.size = 0
 
     async def challenges(self, name: str) -> None:
-        """A node that holds a blob meets every challenge, one that lies or is gone does not; the page tells it."""
+        """A node that holds a blob passes every challenge, one that lies or is gone does not; the page shows it."""
         for _ in range(3):
             found = await self.challenge(name, "node-1")
             self.assertEqual((found["holds"], found["node"], found["blob"]), (True, "node-1", name), found)

@@ -1,4 +1,4 @@
-"""The cache of a gateway, and what is read ahead of who wants it."""
+"""The cache of a gateway, and pieces that are read before they are needed."""
 import asyncio
 import contextlib
 import gc
@@ -19,7 +19,7 @@ from walrus.network.reading import Pace, Reader
 
 
 class Seen:
-    """What a call has, and should be gone once the call has ended."""
+    """An object that a call holds, and that must be freed once the call has ended."""
 
 
 class Caches(unittest.IsolatedAsyncioTestCase):
@@ -73,10 +73,10 @@ class Caches(unittest.IsolatedAsyncioTestCase):
             with self.assertRaises(client.NoBundle):
                 await self.want(b"never a bundle")
         self.assertEqual(self.reads, [b"never", b"never a bundle"])
-        self.assertEqual(set(lengths[1:]), {lengths[1]})  # what was raised before is not kept with it
+        self.assertEqual(set(lengths[1:]), {lengths[1]})  # it does not keep what was raised before
 
     async def test_with_a_refusal_nothing_stays_of_what_was_read_nor_of_who_asked(self) -> None:
-        """Else who asks for the members of what is no bundle fills the memory, a column of it for each number."""
+        """Otherwise requests for members of a blob that is no bundle fill the memory, with a column for each number."""
         seen = list["weakref.ref[Seen]"]()
 
         async def read(identifier: bytes, size: int) -> bytes:
@@ -151,7 +151,7 @@ class Ahead(unittest.IsolatedAsyncioTestCase):
             self.assertEqual([it.args[0] for it in network.fetch.call_args_list], [first, later][: 1 + ahead])
 
     async def test_a_length_is_asked_for_where_memory_is_short(self) -> None:
-        """What a list says of its last piece is not believed. Of the largest blob nobody need be asked."""
+        """The length that a list gives for its last piece is not trusted. For the largest blob, none is asked for."""
         network = mock.Mock(fetch=mock.AsyncMock(return_value=bytes(7)))
         reader = Reader(network, Options())
         with mock.patch.object(reader.lengths, "of_blob", mock.AsyncMock(return_value=7)) as asked:

@@ -1,4 +1,4 @@
-"""Caches before a gateway whose folders have hosts of their own: what one host says is for that host alone."""
+"""Caches before a gateway whose folders have hosts of their own: a host's responses are kept for it alone."""
 import hashlib
 import re
 import unittest
@@ -14,20 +14,20 @@ SITES, PACKAGE = "sites.example", HERE.parents[1] / "clients" / "python" / "walr
 
 class SitesCase(GuardCase):
     def file(self, data: bytes) -> bytes:
-        """Has a file be there; its identifier."""
+        """Makes a file readable, and returns its identifier."""
         name = hashlib.sha256(data).digest()
         self.files[name.hex()] = data
         return name
 
     def folder_of(self, files: Files) -> bytes:
-        """Has a folder be there; its identifier."""
+        """Makes a folder readable, and returns its identifier."""
         places = [Place(path, "text/plain", len(data), self.file(data)) for path, data in sorted(files.items())]
         return self.file(manifest_of(*places))
 
 
 class Told(SitesCase):
     async def vary(self, path: str, status: int, **headers: str) -> str:
-        """By which headers of a request its reply is another one."""
+        """Returns the request headers by which a reply varies."""
         found, told, body = await self.ask("GET", path, headers=headers, allow_redirects=False)
         self.assertEqual(found, status, body)
         return told.get("vary", "")
@@ -42,14 +42,14 @@ class Told(SitesCase):
             self.assertEqual(await self.vary(f"/v1/blobs/{blob}", 304, **{"If-None-Match": f'"{blob}"'}), vary)
             self.assertEqual(await self.vary(f"/v1/folders/{folder.hex()}", 301), vary)
             self.assertEqual(await self.vary(f"/v1/folders/{folder.hex()}/", 200), f"Accept{', ' * bool(vary)}{vary}")
-            self.assertEqual(await self.vary("/v1/status", 200), "")  # which none may keep
+            self.assertEqual(await self.vary("/v1/status", 200), "")  # no cache may keep it
         await self.start(sites=SITES)
         host = f"{label_of(folder)}.{SITES}"
         self.assertEqual([await self.vary("/a/b", 200, Host=host), await self.vary("/c", 404, Host=host)], ["Host", ""])
 
 
 class Nginx(test_http_proxy.BehindNginx, SitesCase):
-    """With a cache, whose key has no host of itself."""
+    """nginx with a cache, whose key has no host by default."""
 
     options, key = {"sites": SITES}, ""
 
@@ -73,7 +73,7 @@ class Nginx(test_http_proxy.BehindNginx, SitesCase):
 
 
 class Keyed(Nginx):
-    """The same with the key that the page tells."""
+    """The same with the cache key that the page recommends."""
 
     key = "".join(re.findall(r"`(proxy_cache_key [^`]*)`", (HERE.parent / "OPERATING.md").read_text())) + ";"
 

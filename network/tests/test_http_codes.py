@@ -1,4 +1,4 @@
-"""What the gateway makes of a refusal of the program: codes decide, and no words."""
+"""How the gateway treats a refusal of the program: by its code, never by its words."""
 import unittest
 from unittest import mock
 
@@ -17,7 +17,7 @@ PIECE = 16_777_216
 
 class Codes(unittest.IsolatedAsyncioTestCase):
     def test_what_a_read_lacks_is_told_by_types(self) -> None:
-        """Whatever the words are: the codes say what they tell."""
+        """Whatever the words are, the codes decide."""
         for code, said, status, text, lacking in (
             (Code.TOO_FEW, b"short 1 of 3\n", 503, "1 of 3 needed slivers are heard", 2),
             (Code.TOO_FEW, b"1 heard, 3 wanted\n", 503, "1 of 3 needed slivers are heard", 2),

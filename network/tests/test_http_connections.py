@@ -1,4 +1,4 @@
-"""What comes at gateways and recorders before anything is answered: handshakes, heads and bodies, in small pieces."""
+"""What gateways and recorders receive before they answer: handshakes, heads and bodies, in small pieces."""
 import asyncio
 import collections
 import contextlib
@@ -37,7 +37,7 @@ class Coming(GuardCase):
         return "\r\n".join([f"{line} HTTP/1.1", f"Host: 127.0.0.1:{self.port}", *fields, "", ""]).encode()
 
     def served(self) -> list[Any]:
-        """The connections that the gateway has."""
+        """Returns the connections of the gateway."""
         assert self.gateway.runner and self.gateway.runner.server
         return self.gateway.runner.server.connections
 
@@ -47,13 +47,13 @@ class Coming(GuardCase):
                 await asyncio.sleep(0.01)
 
     async def paused(self, count: int) -> None:
-        """Waits until so many connections take no more."""
+        """Waits until this many connections have paused reading."""
         await self.until(lambda: sum(it._reading_paused for it in self.served()) == count)
 
 
 class Bodies(Coming):
     async def test_chunks_of_a_byte_take_little_memory(self) -> None:
-        """Else each connection takes some 2 MB, also of who may store nothing, for as long as it is not answered."""
+        """Otherwise each unanswered connection takes some 2 MB, even of clients that may store nothing."""
         await self.start(requests=0)
         self.enterContext(mock.patch.object(self.gateway.reader, "answer", self.wait))
         asked, chunked = f"GET /v1/blobs/{'0' * 64}", "Transfer-Encoding: chunked"
@@ -87,7 +87,7 @@ class Bodies(Coming):
             self.assertIn(b" 201 ", await reader.readline())
             self.assertTrue(self.stored == [data])
             writer.write(self.head("GET /livez", "Connection: close"))
-            self.assertIn(b"HTTP/1.1 200 OK", await reader.read())  # what comes behind is taken again
+            self.assertIn(b"HTTP/1.1 200 OK", await reader.read())  # what follows is read again
         unread = self.head("GET /livez", "Transfer-Encoding: chunked") + b"1\r\nx\r\n" * 5_000 + b"0\r\n\r\n"
         reader, writer = await self.connect(unread + self.head("GET /livez", "Connection: close"))
         async with asyncio.timeout(20):
@@ -106,7 +106,7 @@ class Heads(Coming):
         await self.until(lambda: not self.gateway.each)
 
     async def test_a_head_that_stays_half_sent_takes_little(self) -> None:
-        """Else each connection takes a megabyte with the fields of one, and what comes behind a body as much."""
+        """Otherwise each connection takes a megabyte with the fields of a head, and as much for what follows a body."""
         await self.start(requests=0)
         self.enterContext(mock.patch.object(self.gateway.reader, "answer", self.wait))
         asked, field = f"GET /v1/blobs/{'0' * 64}", b"H: " + b"h" * 8_000 + b"\r\n"
@@ -122,14 +122,14 @@ class Heads(Coming):
         await self.until(lambda: not self.served())
         self.goes_on.set()
         reader, _ = await self.connect(self.head("GET /livez", "Connection: close")[:-2] + field * 7 + b"\r\n")
-        self.assertIn(b" 200 OK", await reader.readline())  # such a head is taken
+        self.assertIn(b" 200 OK", await reader.readline())  # such a head is accepted
 
 
 class Handshakes(Coming):
     """A gateway over TLS, and recorders, at which clients come from several addresses of this machine."""
 
     async def start_tls(self, seconds: float) -> None:
-        """Starts the gateway, which waits for a handshake for so long."""
+        """Starts the gateway with this deadline for handshakes."""
         make_authority(self.folder / "authority-web")
         await make_certificate(self.folder, "web", by="authority-web")
         with mock.patch.object(connections, "HANDSHAKE", seconds):
@@ -141,7 +141,7 @@ class Handshakes(Coming):
         return reader, writer
 
     async def check(self, served: Server, port: int, context: ssl.SSLContext, asked: bytes) -> None:
-        """Of who completes no handshake few wait, and who comes from elsewhere completes his."""
+        """Few of the clients that complete no handshake wait, and a client from elsewhere completes its own."""
         served.most = 8
         reader, early = await self.come("127.0.0.4", port)
         opened = [await self.come("127.0.0.2", port) for _ in range(30)]

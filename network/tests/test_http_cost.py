@@ -1,4 +1,4 @@
-"""What those cost a gateway who read nothing of what they ask for, invent names, or ask for the same again."""
+"""What clients cost a gateway that read no replies, invent names, or ask for the same again."""
 import asyncio
 import collections
 import hashlib
@@ -24,10 +24,10 @@ from walrus.network.manifest import MARK, Place
 class Unread(Coming):
     async def asyncSetUp(self) -> None:
         await super().asyncSetUp()
-        self.enterContext(mock.patch.multiple(reading, SILENCE=600.0, GRACE=600.0))  # so that who does not read stays
+        self.enterContext(mock.patch.multiple(reading, SILENCE=600.0, GRACE=600.0))  # keeps them connected
 
     async def unread(self, path: str, count: int) -> None:
-        """Has so many connections ask for something of which they read nothing, and the system keeps little."""
+        """Opens connections that ask for something and read nothing of it, with small buffers in the system."""
         loop, there = asyncio.get_running_loop(), len(self.served())
         asking = [socket.socket() for _ in range(count)]
         for it in asking:
@@ -42,11 +42,11 @@ class Unread(Coming):
             await loop.sock_sendall(it, self.head(f"GET {path}"))
 
     def waiting(self) -> int:
-        """The connections that have something to take."""
+        """Returns the connections that have something to read."""
         return sum(bool(it.transport and it.transport.get_write_buffer_size()) for it in self.served())
 
     async def test_of_what_nobody_reads_little_is_in_memory(self) -> None:
-        """Else one address has gigabytes: in lists of folders names of quotation marks take nine times their bytes."""
+        """Otherwise one address takes gigabytes: in lists of folders, quotation marks take nine times their bytes."""
         await self.start(requests=0)
         made = MARK + b"".join(b'"' * 250 + b"%05d\ta/b\t0\t-\n" % it for it in range(10_000))
         name = hashlib.sha256(made).hexdigest()
@@ -107,7 +107,7 @@ class Again(GuardCase):
 
 
 class Longer(unittest.IsolatedAsyncioTestCase):
-    """Files and folders that are kept for longer. What is in `files` stands, and what `standing` names."""
+    """Keeping files and folders for longer. Blobs in `files` and those that `standing` names are certified."""
 
     async def asyncSetUp(self) -> None:
         asyncio.get_running_loop().set_debug(False)
@@ -142,13 +142,13 @@ class Longer(unittest.IsolatedAsyncioTestCase):
         return name
 
     def keep_list(self, count: int, first: int = 0) -> bytes:
-        """A list of so many blobs that stand."""
+        """Makes a list of this many certified blobs."""
         names = [it.to_bytes(NAME, "big") for it in range(first, first + count)]
         self.standing |= {*names}
         return self.keep(File(count * PIECE, b"".join(names)).listed())
 
     async def test_invented_names_take_no_memory(self) -> None:
-        """Else some requests of one who may store have gigabytes."""
+        """Otherwise a few requests of a client that may store take gigabytes."""
         count, lines = 100_000, 50_000
         listed = self.keep(File(count * PIECE, DRAWN.randbytes(count * NAME)).listed())
         folder = self.keep(manifest_of(*(Place(f"{it:05}", "a/b", 1, DRAWN.randbytes(NAME)) for it in range(lines))))
@@ -174,7 +174,7 @@ class Longer(unittest.IsolatedAsyncioTestCase):
             while self.registered.total() < 14:
                 await asyncio.sleep(0.01)
             await asyncio.sleep(0.1)
-        self.assertEqual(self.registered, {"a": 6, "b": 6, "c": 2})  # the lists themselves come behind the rest
+        self.assertEqual(self.registered, {"a": 6, "b": 6, "c": 2})  # the lists themselves come last
         self.goes_on.set()
         await asyncio.gather(*tasks)
         self.assertEqual(self.registered, {"a": 14, "b": 7, "c": 10})

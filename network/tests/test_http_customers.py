@@ -68,7 +68,7 @@ class Customers(GuardCase):
         self.assertNotIn(text, (self.folder / "tokens.json").read_text())
         with mock.patch.object(tokens.hmac, "compare_digest", return_value=False) as compared:
             self.assertEqual(await self.put(headers={"Authorization": good}), 401)
-        self.assertEqual(compared.call_count, 1)  # which takes as long for whatever is shown
+        self.assertEqual(compared.call_count, 1)  # compared in constant time
 
     async def test_tokens_change_while_it_runs(self) -> None:
         await self.start()
@@ -82,7 +82,7 @@ class Customers(GuardCase):
         for bad in ("{", "[]", '{"a": 1}', '{"x": {"rights": ["all"], "sha256": "00"}}', ""):
             path.write_text(bad)
             self.assertEqual([await self.put(headers=it) for it in ({}, again)], [401, 201], bad)
-        path.unlink()  # that it is gone opens nothing
+        path.unlink()  # losing the file opens nothing
         self.assertEqual([await self.put(headers=it) for it in ({}, again)], [401, 201])
         path.write_text(good)
         tokens.change_token(path, "alice", None)
@@ -135,11 +135,11 @@ class Customers(GuardCase):
         charge = shares.Charge(kept, alice, 0)
         for size in (600, 400):
             charge.add(size)
-            self.assertTrue(kept.take(alice, 1, 1, 1))  # others begin in the next epoch meanwhile
+            self.assertTrue(kept.take(alice, 1, 1, 1))  # other uploads begin in the next epoch meanwhile
         for size, epoch in ((1, 0), (999, 1)):
             self.assertFalse(kept.take(alice, epoch, size, 1))
         self.assertTrue(kept.take(alice, 5_000, 1, 1))
-        self.assertFalse(kept.take(alice, 0, 1, 1))  # what is dropped does not begin anew
+        self.assertFalse(kept.take(alice, 0, 1, 1))  # an epoch whose count was dropped does not begin anew
         self.assertEqual(kept.base.execute("SELECT name, epoch FROM used").fetchall(), [("alice", 5_000)])
 
     async def test_a_bundle_costs_its_own_length(self) -> None:
@@ -206,7 +206,7 @@ class Customers(GuardCase):
         self.assertIn("no token of carol", await self.net(1, "token", "carol", "--remove", *folder))
 
     async def net(self, status: int, *words: str, token: str = "") -> str:
-        """What walrus-net says, with this exit status."""
+        """Returns the output of walrus-net, and checks its exit status."""
         environment = {**os.environ, "WALRUS_GATEWAY": self.url, "WALRUS_TOKEN": token}
         pipe = {"stdout": asyncio.subprocess.PIPE, "stderr": asyncio.subprocess.STDOUT}
         line = [str(HERE.parent / "walrus-net"), *words]

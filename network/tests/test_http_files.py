@@ -34,7 +34,7 @@ class Files(GatewayCase):
         await self.many_readers()
 
     async def in_and_out(self, files: list[bytes], pieces: list[int]) -> list[str]:
-        """Files are split into so many pieces, and come back as they were; their names."""
+        """Stores files, checks how they are split and that they come back unchanged; returns their names."""
         names = []
         for data, count in zip(files, pieces):
             told = await self.put(data)
@@ -56,7 +56,7 @@ class Files(GatewayCase):
         return await client.Walrus(find_program()).output(*words, data=data)
 
     async def ranges(self, name: str, data: bytes) -> None:
-        """Spans of a file come as they are in it, one or several."""
+        """One or several ranges of a file have the right bytes."""
         size = len(data)
         for text in ("0-0", "0-", "-1", "-99999999", f"{SMALL - 2}-{SMALL * 3}", f"{SMALL}-{size}", f"{size - 1}-"):
             status, headers, body = await self.get(name, "-r", text)
@@ -74,7 +74,7 @@ class Files(GatewayCase):
         self.assertEqual(found, [(f"bytes {one}-{two - 1}/{size}", data[slice(one, two)]) for one, two in spans])
         status, headers, _ = await self.get(name, "-r", f"{size}-")
         self.assertEqual((status, headers["content-range"]), (416, f"bytes */{size}"))
-        for text in ("bytes=7-3", "lines=0-1", "bytes=a-b"):  # what is no range is not heard
+        for text in ("bytes=7-3", "lines=0-1", "bytes=a-b"):  # a malformed range is ignored
             status, headers, body = await self.get(name, "-H", f"Range: {text}")
             self.assertEqual((status, len(body)), (200, size))
         status, headers, _ = await self.get(name, "--head", "-r", "0-1")
@@ -101,7 +101,7 @@ class Files(GatewayCase):
         await self.refused(405, f"/v1/blobs/{name}", "-X", "DELETE")
 
     async def many_readers(self) -> None:
-        """Two hundred who want one blob at once get it, and it is read from the network once."""
+        """Two hundred clients that want one blob at once get it, and it is read from the network once."""
         data = DRAWN.randbytes(100_000)
         name = (await self.put(data))["blobId"]
         before = self.gateway.reader.cache.reads

@@ -36,7 +36,7 @@ class Bounds(FolderGatewayCase):
         await self.put_folder(tar_of({"a": b"x"}), 403, headers=reader)
         await self.put_folder(tar_of({"a": b"x"}), 401)
 
-        async def endless() -> Any:  # whose length is not told before
+        async def endless() -> Any:  # its length is not announced
             yield tar_of({"a": b"z" * 600_000})
 
         count = len(self.stored)
@@ -71,11 +71,11 @@ class Bounds(FolderGatewayCase):
         for own in (others, ["address 127.0.0.1"] * (gathering.AT_ONCE // turns.PARTS)):
             async with contextlib.AsyncExitStack() as stack:
                 for it in own:
-                    await self.put_folder(b"no tar", 400)  # which gives its turn back
+                    await self.put_folder(b"no tar", 400)  # it gives its turn back
                     await stack.enter_async_context(busy.take(it))
                 with unittest.mock.patch.object(turns, "WAITING", 0.1):
                     self.assertIn("too much to do", (await self.put_folder(tar_of(site()), 503))["error"]["text"])
-                    if own is not others:  # one who has all of a part keeps nobody else away
+                    if own is not others:  # a client that uses all of its part keeps nobody else away
                         await stack.enter_async_context(busy.take("address 192.0.2.1"))
             await self.put_folder(tar_of(site()))
 

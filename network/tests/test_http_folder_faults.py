@@ -1,4 +1,4 @@
-"""Folders over HTTP that are none, break off, or that a liar wrote."""
+"""Folders over HTTP that are malformed, break off, or that a liar wrote."""
 import asyncio
 import hashlib
 import io
@@ -26,7 +26,7 @@ class Faults(FolderGatewayCase):
         for bad in (b"", b"x" * 512, whole[:700], whole[:3_000], whole[: 512 + 3_072 + 512], whole + b"x"):
             await self.put_folder(bad, 400)
         head, flipped = bytearray(whole), bytearray(whole)
-        head[124:136] = b"\x80" + b"\xff" * 11  # a length without end, whose sum is right
+        head[124:136] = b"\x80" + b"\xff" * 11  # an endless length in a header whose checksum is right
         head[148:156] = b"%06o\0 " % sum(head[:148] + b" " * 8 + head[156:512])
         flipped[0] ^= 1
         for bad in (bytes(head), bytes(flipped)):
@@ -109,7 +109,7 @@ class Faults(FolderGatewayCase):
         self.assertNotIn(b"<script", body)
         self.assertNotIn(b'"onload', body)
         reads = self.gateway.reader.cache.reads
-        await self.get(f"/v1/folders/{there(MARK + b'x')}/")  # known as malformed from before
+        await self.get(f"/v1/folders/{there(MARK + b'x')}/")  # it is known to be malformed
         self.assertEqual(self.gateway.reader.cache.reads, reads)
 
     async def test_manifests_are_kept_within_bounds(self) -> None:
@@ -169,7 +169,7 @@ class Faults(FolderGatewayCase):
                     raise client.Failed("it is told to fail", {})
             return await true(gathering.once(data), epochs, stored)
 
-        self.enterContext(unittest.mock.patch.object(gathering, "WRITTEN", 20_000))  # which are read at once
+        self.enterContext(unittest.mock.patch.object(gathering, "WRITTEN", 20_000))  # bytes that are read at once
         with unittest.mock.patch.object(self.gateway.publisher.writer, "store", store):
             await self.put_folder(whole, 503, headers=shown)
         self.assertEqual(self.used("one"), (20_000 + 100_000, 1 + 2))  # all of a, and two whole pieces of b

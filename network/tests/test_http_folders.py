@@ -1,4 +1,4 @@
-"""Folders over HTTP: what comes as a tar or a form, and how it is served."""
+"""Folders over HTTP: stored from a tar or a form, and how they are served."""
 import base64
 import hashlib
 import tarfile
@@ -12,7 +12,7 @@ from folder_case import HOSTILE, form_of, odd_tar, site, tar_of
 from walrus.network import manifest
 from walrus.network.manifest import MARK
 
-AUTO = ["Content-Type"]  # which aiohttp would say by itself
+AUTO = ["Content-Type"]  # aiohttp would send one by itself
 
 
 class Folders(FolderGatewayCase):
@@ -111,12 +111,12 @@ class Folders(FolderGatewayCase):
 
     async def test_what_no_folder_has_is_refused_by_name_and_nothing_is_stored(self) -> None:
         await self.start()
-        film = bytes(3_145_728)  # which is stored on its own
+        film = bytes(3_145_728)  # it is stored on its own
         for what, (path, said) in HOSTILE.items():
             for form in (tarfile.PAX_FORMAT, tarfile.GNU_FORMAT):
                 told = await self.put_folder(tar_of([("film", film), ("before", b"1"), (path, b"2")], form), 400)
                 self.assertIn(said, told["error"]["text"], what)
-            if what not in ("control", "no UTF-8", "backslash"):  # which no form can say so
+            if what not in ("control", "no UTF-8", "backslash"):  # a form cannot have these names
                 kind, data = form_of({"film": film, "before": b"1", path: b"2"})
                 self.assertIn(said, (await self.put_folder(data, 400, kind))["error"]["text"], what)
         for kind, link in ((tarfile.SYMTYPE, "../x"), (tarfile.LNKTYPE, "before"), (tarfile.CHRTYPE, "")):
@@ -163,7 +163,7 @@ class Folders(FolderGatewayCase):
             f"/v1/blobs/{name}",
             f"/v1/folders/{name}/",
         ):
-            self.assertEqual((await at(host, path))[0], 404, path)  # nothing of the gateway's own
+            self.assertEqual((await at(host, path))[0], 404, path)  # nothing of the gateway itself
         for method in ("PUT", "POST", "DELETE"):
             self.assertEqual((await at(host, "/v1/blobs?epochs=1", method))[0], 405)
         self.assertEqual((await at(host, "/", "OPTIONS"))[1]["allow"], "GET, HEAD, OPTIONS")
@@ -202,7 +202,7 @@ class Folders(FolderGatewayCase):
             self.assertEqual((await self.get(f"/v1/blobs/{file}"))[1]["content-type"], "application/octet-stream")
         named = (await self.put_folder(tar_of({"a.svg": b"<svg/>"})))["blobId"]
         line = b"a.svg\timage/svg+xml\t6\t" + hashlib.sha256(b"<svg/>").hexdigest().encode() + b"@0\n"
-        self.assertEqual(named, hashlib.sha256(MARK + line).hexdigest())  # as a folder of it is named anyway
+        self.assertEqual(named, hashlib.sha256(MARK + line).hexdigest())  # the name of a folder of this file anyway
         count = len(self.stored)
         for name, sent, said in (
             ("", {}, "empty name"),
@@ -212,9 +212,9 @@ class Folders(FolderGatewayCase):
             ("%FF", {}, "no UTF-8"),
             ("a%0D%0Ab", {}, "control character"),
             ("a" * 256, {}, "too long"),
-            ("a", {"Content-Type": "text/html; charset=latin-1"}, "no media type that is kept"),
-            ("a", {"Content-Type": "multipart/form-data; boundary=x"}, "no media type that is kept"),
-            ("a", {"Content-Type": "text"}, "no media type that is kept"),
+            ("a", {"Content-Type": "text/html; charset=latin-1"}, "no media type that can be kept"),
+            ("a", {"Content-Type": "multipart/form-data; boundary=x"}, "no media type that can be kept"),
+            ("a", {"Content-Type": "text"}, "no media type that can be kept"),
         ):
             url = yarl.URL(f"{self.url}/v1/blobs?epochs=5&filename={name}", encoded=True)
             async with self.session.put(url, data=b"x", headers=sent, skip_auto_headers=AUTO) as refused:

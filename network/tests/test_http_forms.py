@@ -1,4 +1,4 @@
-"""How files that come are split into pieces, and how forms are read."""
+"""How uploads are split into pieces, and how forms are read."""
 import asyncio
 import random
 import unittest
@@ -77,7 +77,7 @@ class Forms(unittest.IsolatedAsyncioTestCase):
         return b"".join(b"----x y\r\n%s\r\n" % it for it in self.PARTS[:count]) + b"----x y--\r\n"
 
     async def read(self, kind: str, form: bytes, step: int = 65_536) -> list[tuple[str, str, bytes]]:
-        """The names, fields and bytes of the files in a form that comes in parts of so many bytes."""
+        """Returns the names, fields and bytes of the files in a form that arrives in parts of this size."""
         found, source = list[tuple[str, str, bytes]](), Source(parts(form, [step] * (len(form) // step)))
         async for sent in forms.files_of(kind, source, "send a form"):
             found.append((sent.name, sent.field, b"".join([part async for part in sent.parts])))
@@ -103,7 +103,7 @@ class Forms(unittest.IsolatedAsyncioTestCase):
             for step in (5_000, 65_536):
                 self.assertEqual((await self.read(self.KIND, form, step))[0][2], data)
         head = self.form(1).replace(b"Content-Type: text/plain", b"Content-Length: 2\r\nContent-Encoding: gzip")
-        self.assertEqual(await self.read(self.KIND, head), expected[:1])  # what a part says of its length is not heard
+        self.assertEqual(await self.read(self.KIND, head), expected[:1])  # a length in a part's head is ignored
         two = self.form(2).replace(b"Content-Type", b"Content-Disposition: form-data; name=b\r\nContent-Type")
         self.assertEqual(len(await self.read(self.KIND, two)), 2)
 

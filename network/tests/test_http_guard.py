@@ -1,4 +1,4 @@
-"""Who may what at a gateway without tokens: pages from elsewhere and strangers; its log, and TLS."""
+"""Access to a gateway without tokens, by pages of other origins and strangers; its log, and TLS."""
 import asyncio
 import contextlib
 import re
@@ -74,7 +74,7 @@ class Own(GuardCase):
 
     @unittest.skipUnless(is_inner(other_address()), "this machine has no address in a network of its own")
     async def test_another_name_for_an_inner_address_reads_files_alone(self) -> None:
-        """A page from outside gives its own name that address, and is of one origin with the gateway then."""
+        """A page from outside can point its own name at that address, and then has the gateway's origin."""
         await self.start(other_address(), names=["blobs.example"])
         self.files["0" * 64] = b"there"
         own = f"{other_address()}:{self.port}", "192.168.7.7:8080", "192.168.7.7", "[fd00::7]:8080", "blobs.example"
@@ -211,7 +211,7 @@ class Logs(GuardCase):
         self.assertEqual((good, last not in (before, after)), (True, True))
 
     async def certificate(self, context: ssl.SSLContext) -> tuple[bool, bytes]:
-        """Whether a fresh connection is taken, and the certificate that it shows."""
+        """Whether a new connection is accepted, and the server's certificate on it."""
         reader, writer = await asyncio.open_connection("127.0.0.1", self.port, ssl=context)
         shown = writer.get_extra_info("ssl_object").getpeercert(True)
         writer.write(b"GET /livez HTTP/1.1\r\nHost: x\r\nConnection: close\r\n\r\n")

@@ -1,4 +1,4 @@
-"""Who would harm others at a gateway or a node: one who takes all turns, or has much computed for little."""
+"""Clients that try to harm others at a gateway or a node: by taking all turns, or by costly requests."""
 import asyncio
 import contextlib
 import hashlib
@@ -41,14 +41,14 @@ class Harm(HarmCase):
             self.assertIn(b"200", await reader.readline())
         await asyncio.sleep(1)
         used = sum(it.users for it in self.gateway.reader.cache.entries.values())
-        self.assertEqual(used, 2)  # of what the four are sent, others may drop the rest
+        self.assertEqual(used, 2)  # of the pieces sent to the four; the rest may be dropped
         async with self.gateway.reader.sendings.take("address 192.0.2.1"):
             pass  # somebody else's turn
         for _, writer in readers:
             writer.transport.abort()
 
     async def test_of_those_who_wait_nobody_has_any_number(self) -> None:
-        """Else who asks, goes away and asks again has as much memory as a minute takes."""
+        """Otherwise a client that asks, disconnects and asks again takes memory for all requests of a minute."""
         self.enterContext(mock.patch.object(turns, "MOST", 5))
         places = turns.Turns(1, 1)
         together = turns.Together(places)
@@ -126,7 +126,7 @@ class Harm(HarmCase):
 
 class Tars(unittest.IsolatedAsyncioTestCase):
     async def test_what_a_tar_tells_without_a_file_takes_no_memory(self) -> None:
-        """Else whoever may store folders fills the memory of all: headers of fields may follow each other for ever."""
+        """Otherwise a client that may store folders fills the memory: pax headers may follow each other for ever."""
 
         async def headers() -> AsyncIterator[bytes]:
             for block in range(12):
@@ -145,7 +145,7 @@ class Tars(unittest.IsolatedAsyncioTestCase):
 
 class AtNodes(unittest.IsolatedAsyncioTestCase):
     async def test_of_a_request_no_more_envelopes_are_read_than_it_has(self) -> None:
-        """Anybody may send one of 14 MB that has two million: to look at all of them took seconds and a gigabyte."""
+        """Anybody may send a request of 14 MB with two million envelopes: reading all took seconds and a gigabyte."""
         shape = client.Shape(1)
         request, empty = whole.place(shape, whole.longest(shape)), client.envelope(b"")
         count = (len(request) - 1) // len(empty)

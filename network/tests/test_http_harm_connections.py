@@ -1,4 +1,4 @@
-"""Who has many connections or requests, goes away, or takes no reply."""
+"""Clients with many connections or requests, and clients that disconnect or read no reply."""
 import asyncio
 import contextlib
 import unittest
@@ -24,7 +24,7 @@ class Crowds(HarmCase):
         self.assertEqual({most for _, most in found}, {connections.EACH})
 
     async def is_ended(self, writer: asyncio.StreamWriter, data: bytes, times: int) -> bool:
-        """Whether a connection is ended while more comes by it."""
+        """Whether a connection is closed while more data arrives on it."""
         with contextlib.suppress(OSError):
             for _ in range(times):
                 writer.write(data)
@@ -48,14 +48,14 @@ class Crowds(HarmCase):
         for head, data in ((b"Connection: upgrade\r\nUpgrade: h2c\r\n", bytes(16_384)), (b"", put)):
             _, writer = await self.connect(asked + head + b"\r\n")
             self.assertTrue(await self.is_ended(writer, data, 400))
-        long = b"".join(b"H%d: %b\r\n" % (it, b"h" * 5_000) for it in range(5))  # of each request 64 may wait
+        long = b"".join(b"H%d: %b\r\n" % (it, b"h" * 5_000) for it in range(5))  # 64 requests may wait
         _, writer = await self.connect(asked + b"\r\n")
         self.assertTrue(await self.is_ended(writer, asked + long + b"\r\n", 40))
         reader, writer = await self.connect(asked + b"".join(b"H%d: h\r\n" % it for it in range(64)) + b"\r\n")
         self.assertIn(b" 400 ", await reader.readline())
 
     async def test_of_one_who_asks_and_goes_away_few_requests_are_answered(self) -> None:
-        """They go on without their clients, as long as what they wait for: of those who are connected there are few."""
+        """Requests continue without their clients for as long as what they wait for; few of a client are answered."""
         alice = self.token("alice")
         self.token("anyone", "read")
         await self.start(connections=8)
@@ -86,7 +86,7 @@ class Crowds(HarmCase):
 
     async def test_who_takes_no_reply_is_let_go(self) -> None:
         self.enterContext(mock.patch.multiple(connections, GRACE=0.5, LEAST=10**9))
-        self.enterContext(mock.patch.object(reading, "SILENCE", 0.5))  # of what goes out in parts
+        self.enterContext(mock.patch.object(reading, "SILENCE", 0.5))  # deadline for replies that are sent in parts
         await self.start()
         for size in (9_000_000, 30_000):
             text = mock.patch.object(self.gateway.watch, "status_text", lambda: b'"' + b"x" * size + b'"')

@@ -1,4 +1,4 @@
-"""Lists and manifests that are long, malformed or on a slow disk hold up nobody."""
+"""Lists and manifests that are long, malformed or on a slow disk delay nobody else."""
 import asyncio
 import concurrent.futures
 import gc
@@ -19,7 +19,7 @@ from walrus.network.manifest import MARK, Place
 
 class Lists(HarmCase):
     async def test_of_a_malformed_manifest_nothing_stays_but_why(self) -> None:
-        """Else each keeps as much of the disk as it had, and 128 are known."""
+        """Otherwise each keeps as much of the disk as it had, and 128 are kept."""
         await self.start()
         made = list["weakref.ref[mmap.mmap]"]()
 
@@ -70,7 +70,7 @@ class Lists(HarmCase):
         with mock.patch.object(folders, "listing", listing):
             told = await asyncio.gather(*(self.ask("GET", path) for _ in range(4)))
         self.assertEqual([status for status, _, _ in told], [200] * 4)
-        self.assertEqual(found, [1] * 4)  # of one who asks one at a time
+        self.assertEqual(found, [1] * 4)  # one client's are made one at a time
 
     async def test_long_lists_leave_the_threads_that_encode_to_stores(self) -> None:
         self.token("anyone")

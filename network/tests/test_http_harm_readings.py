@@ -1,4 +1,4 @@
-"""Places to read: nobody has them all, or waits behind all that another one wants."""
+"""Places to read: no client has them all, or waits behind everything that another one reads."""
 import asyncio
 import collections
 import contextlib
@@ -15,7 +15,7 @@ from walrus.network.listing import Lister
 
 
 class Readings(unittest.IsolatedAsyncioTestCase):
-    """Places to read, of a reader whose network gives a blob once it may."""
+    """Places of a reader, whose network returns a blob once the test allows it."""
 
     async def asyncSetUp(self) -> None:
         asyncio.get_running_loop().set_debug(False)
@@ -38,7 +38,7 @@ class Readings(unittest.IsolatedAsyncioTestCase):
             pass
 
     async def settle(self, *asked: Coroutine[Any, Any, Any]) -> "list[asyncio.Task[Any]]":
-        """Begins what is asked for, one after the other, and lets all tasks go on as far as they can."""
+        """Begins these reads one after the other, and lets all tasks run as far as they can."""
         begun = [asyncio.create_task(it) for it in asked]
         for it in begun:
             self.addCleanup(it.cancel)
@@ -85,7 +85,7 @@ class Readings(unittest.IsolatedAsyncioTestCase):
         self.assertEqual(self.read[8:], ["folder of a", "folder of b"])
 
     async def test_who_asks_for_many_lengths_leaves_the_shards_to_others(self) -> None:
-        """Each exchange with a shard has one of a few lanes, which all have in the order in which they come."""
+        """Exchanges with a shard share a few lanes, in the order in which they arrive."""
         asked, known = list[bytes](), self.reader.lengths.known
 
         async def ask(name: bytes) -> int:

@@ -1,4 +1,4 @@
-"""Uploads that are not finished: those of some leave places for others."""
+"""Unfinished uploads of some clients leave places for others."""
 import asyncio
 import collections
 import os
@@ -24,7 +24,7 @@ class Uploads(HarmCase):
         with mock.patch.object(unfinished, "ALL", 6):
             self.assertEqual([await self.begin() for _ in range(4)], [201] * 3 + [503])  # strangers have a half
             self.assertEqual([await self.begin(**alice) for _ in range(4)], [201] * 3 + [503])
-            self.assertEqual(await self.begin(**bob), 503)  # the others go on just now
+            self.assertEqual(await self.begin(**bob), 503)  # data has just arrived for the others
             for path in self.folder.glob("tokens.uploads/*/about"):
                 os.utime(path, (time.time() - 700, time.time() - 700))
             self.assertEqual((await self.begin(**alice), await self.begin(**bob)), (503, 201))
@@ -33,7 +33,7 @@ class Uploads(HarmCase):
             self.assertEqual(sorted(counts.values()), [1, 1, 2, 2])  # the two who had three gave one each
 
     async def test_addresses_that_send_nothing_leave_places_for_another_one(self) -> None:
-        """Else four of them keep all others from it for a day, with a request each now and then."""
+        """Otherwise four addresses keep all others out for a day, with an occasional request each."""
         kept, about = unfinished.Unfinished(self.folder / "many"), {"until": 9, "epoch": 0, "length": None}
         with mock.patch.object(unfinished, "ALL", 8):
             for owner in ("address 192.0.2.1", "address 192.0.2.2") * 2:

@@ -1,4 +1,4 @@
-"""A file of 300 MB through network/up with curl, and a node killed between: some minutes."""
+"""A file of 300 MB through network/up with curl, with a node killed in between: takes some minutes."""
 import asyncio
 import json
 import os
@@ -12,7 +12,7 @@ import unittest
 from http_case import PIECE, UpCase
 
 SIZE = int(os.environ.get("LARGE_BYTES", "300000000"))
-SECONDS, MEMORY = 1_200, 300_000_000  # for a transfer; bytes that the gateway may take at most
+SECONDS, MEMORY = 1_200, 300_000_000  # for a transfer; the most bytes of memory that the gateway may take
 
 
 @unittest.skipIf(shutil.which("curl") is None, "curl is not here (network/install --tests)")
@@ -39,7 +39,7 @@ class Large(UpCase):
         print(text.format(SIZE, *speeds, most / 1e6), flush=True)
 
     async def ran(self, *words: object) -> str:
-        """What a command says that ends with status 0."""
+        """Returns the output of a command, which must end with status 0."""
         process = await asyncio.create_subprocess_exec(*map(str, words), stdout=asyncio.subprocess.PIPE)
         async with asyncio.timeout(SECONDS):
             said, _ = await process.communicate()

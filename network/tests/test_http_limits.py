@@ -1,4 +1,4 @@
-"""Impatient and slow clients of a gateway: how much they may ask, and how fast."""
+"""Rate limits for clients of a gateway, and slow clients."""
 import asyncio
 import contextlib
 import os
@@ -17,13 +17,13 @@ from walrus.network.limits import Bucket, Limits, is_address, is_inner
 
 class Impatient(GuardCase):
     async def test_too_many_requests(self) -> None:
-        clock = mock.Mock(return_value=1_000.0)  # of the limits alone
+        clock = mock.Mock(return_value=1_000.0)  # only for the limits
         self.enterContext(mock.patch.object(limits_module, "time", types.SimpleNamespace(monotonic=clock)))
         await self.start(requests=5)
         self.token("anyone", "read")
         alice, bob = self.token("alice"), self.token("bob")
         found = [await self.ask("GET", "/v1/status", headers=alice) for _ in range(14)]
-        self.assertEqual([status for status, _, _ in found], [200] * 10 + [429] * 4)  # what two seconds bring
+        self.assertEqual([status for status, _, _ in found], [200] * 10 + [429] * 4)  # two seconds' worth
         _, headers, told = found[-1]
         self.assertEqual((headers["retry-after"], told["error"]["status"]), ("1", 429))
         clock.return_value += 1
@@ -46,7 +46,7 @@ class Impatient(GuardCase):
 
     async def test_bytes_are_paced_in_both_directions(self) -> None:
         await self.start(rate=4_000_000, requests=0)
-        begun = time.monotonic()  # of all: what is not used while a busy machine does nothing may be used later
+        begun = time.monotonic()  # in all: rate that is unused while the machine is busy may be used later
         self.assertEqual(await self.put(bytes(12_000_000)), 201)  # 8 MB are there at first
         self.assertGreater(time.monotonic() - begun, 0.9)
         [name] = self.files
@@ -63,7 +63,7 @@ class Impatient(GuardCase):
         self.files["1" * 64] = bytes(16_000_000)
 
         async def seconds() -> float:
-            """Of this process alone, in which others read; of the machine's they may take any number."""
+            """Returns the processor time of this process for some reads; the clock may show more on a busy machine."""
             begun = time.process_time()
             for _ in range(20):
                 self.assertEqual((await self.ask("GET", f"/v1/blobs/{'1' * 64}"))[2], self.files["1" * 64])
@@ -78,7 +78,7 @@ class Impatient(GuardCase):
         sent = self.gateway.reader.bytes
         async with asyncio.timeout(300):  # for less than they may be slow
             self.assertLess(await seconds(), 5 * alone)
-        self.assertLess(sent['way="out"'], (20 + 20 + 25) * 16_000_000)  # nobody has taken what a slow one is sent
+        self.assertLess(sent['way="out"'], (20 + 20 + 25) * 16_000_000)  # no slow client has received all it is sent
         self.assertEqual([bool(reader.exception()) for reader, _ in slow], [False] * 50)
         for _, writer in slow:
             writer.transport.abort()
@@ -122,7 +122,7 @@ class Impatient(GuardCase):
             while len(left) > 20:
                 await asyncio.sleep(0.02)
                 left = [it for it in opened if not it[0].at_eof() and not it[0].exception()]
-            for reader, writer in left:  # and these have what they ask for
+            for reader, writer in left:  # and these get what they ask for
                 writer.write(b"GET /livez HTTP/1.1\r\nHost: x\r\n\r\n")
                 self.assertIn(b"200", await reader.readline())
         self.assertEqual(len(left), 20)

@@ -1,4 +1,4 @@
-"""The parts of the gateway and its commands that need no network: ranges, a bar, groups of tasks."""
+"""Parts of the gateway and its commands that need no network: ranges, a progress bar, groups of tasks."""
 import asyncio
 import io
 import pathlib
@@ -77,7 +77,7 @@ class Commands(unittest.IsolatedAsyncioTestCase):
                     bar.add(25)
             text = "".join(call.args[0] for call in error.write.call_args_list)
             self.assertEqual(text.count("#"), expected, text)  # once, when half is done, and not again at once
-            self.assertEqual(text.count("\r"), 2 * bool(expected), text)  # drawn, and taken away
+            self.assertEqual(text.count("\r"), 2 * bool(expected), text)  # drawn, and removed
 
     async def test_a_fetch_goes_on_where_the_connection_broke(self) -> None:
         data, asked = random.Random(5).randbytes(100_000), list[str]()
@@ -110,7 +110,7 @@ class Commands(unittest.IsolatedAsyncioTestCase):
 
         async def answer(request: web.Request) -> web.Response:
             if request.query["epochs"] == "9":
-                await goes_on.wait()  # and takes nothing
+                await goes_on.wait()  # and reads nothing
             try:
                 return web.json_response({"size": len(await request.read())})
             finally:
@@ -128,7 +128,7 @@ class Commands(unittest.IsolatedAsyncioTestCase):
         async with aiohttp.ClientSession(server.make_url(""), timeout=limit) as session:
             with mock.patch.object(transfers, "PATIENCE", 1):
                 self.assertEqual(await transfers.put(session, parts(b"part", 0.06), 5), {"size": 100})
-                with self.assertRaisesRegex(TimeoutError, "nothing was taken, or answered, for 1 s"):
+                with self.assertRaisesRegex(TimeoutError, "the gateway took nothing, and did not answer, for 1 s"):
                     is_over.clear()
                     await transfers.put(session, parts(bytes(10**6), 0), 9)
             goes_on.set()
@@ -136,7 +136,7 @@ class Commands(unittest.IsolatedAsyncioTestCase):
 
 
 class Groups(unittest.IsolatedAsyncioTestCase):
-    """What runs beside each other."""
+    """Groups of tasks that run at once."""
 
     async def asyncSetUp(self) -> None:
         self.running = self.most = self.done = self.ended = 0

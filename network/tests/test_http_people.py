@@ -23,7 +23,7 @@ class People(UpCase):
     """The command and the page, over a network that the command itself runs."""
 
     async def words(self, *words: Union[str, int, pathlib.Path], data: bytes = b"", status: int = 0) -> str:
-        """What walrus-net says, with this exit status."""
+        """Returns the output of walrus-net, and checks its exit status."""
         environment = {**os.environ, "WALRUS_GATEWAY": self.url}
         pipes = {name: asyncio.subprocess.PIPE for name in ("stdin", "stdout", "stderr")}
         line = [str(HERE.parent / "walrus-net"), *map(str, words)]
@@ -98,7 +98,7 @@ class People(UpCase):
         self.assertIn("node-3 has ended with status -9", self.log("up"))
         self.local.processes["up"].send_signal(signal.SIGTERM)
         self.assertEqual(await asyncio.wait_for(self.local.processes["up"].wait(), 60), 0, self.log("up"))
-        await self.up()  # all of them, with no word about node-4
+        await self.up()  # starts all of them; node-4 is not named
         told = [f"{name} ({self.process_of(folder, name)})" for name in (*four, "node-4")]
         self.assertIn(f"nodes {' '.join(told)}\n", self.log("up"))
         said = json.loads(await self.words("handover", folder, *four[:3], "node-4", "--yes", "--json"))
@@ -142,14 +142,14 @@ class People(UpCase):
                 await asyncio.sleep(0.1)
 
     def line(self, path: pathlib.Path) -> bytes:
-        """The command line of a process, unless it has just ended."""
+        """Returns the command line of a process, unless it has just ended."""
         try:
             return path.read_bytes()
         except OSError:
             return b""
 
     async def bundles(self, file: pathlib.Path) -> None:
-        """Two files go up as one bundle, and each is fetched by the name that is told for it."""
+        """Two files are stored as one bundle, and each is fetched by the name that is reported for it."""
         other = self.folder / "other \u00fc"
         other.write_bytes(b"other")
         said = (await self.words("store", "--bundle", file, other, "--epochs", 1)).splitlines()
@@ -225,7 +225,7 @@ class People(UpCase):
             self.assertTrue(await browser.evaluate("document.activeElement.matches(':focus-visible')"))
 
     async def shards(self, browser: Browser, name: str) -> None:
-        """What the page tells of nodes, and of a blob's shards while a node is away."""
+        """What the page shows of nodes, and of a blob's shards while a node is away."""
         rows = "[...document.querySelectorAll('#{} tr')].map(it => it.textContent)"
         nodes, files = rows.format("nodes"), rows.format("blobs")
         for word in (r"\\d blobs, \\S+ [kM]?B", r"free of \\S+ [GT]B", "up to date"):

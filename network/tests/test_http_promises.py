@@ -1,5 +1,5 @@
-"""What the pages promise of a gateway in a half-sentence: lengths of time, lists, digests, numbers, and what goes on
-side by side."""
+"""What the pages promise of a gateway in half a sentence: lengths of time, lists, digests, metrics, and what happens
+concurrently."""
 import asyncio
 import base64
 import hashlib
@@ -19,7 +19,7 @@ DAY = 86_400
 
 
 class Times(GuardCase):
-    """For how long something is kept."""
+    """For how long blobs are kept."""
 
     async def asyncSetUp(self) -> None:
         await super().asyncSetUp()
@@ -37,12 +37,12 @@ class Times(GuardCase):
             await self.refused(method, path, "?epochs=N, 1 to 100, or for how long, as ?for=90d")
             await self.refused(method, f"{path}?epochs=101", "1 to 100")  # and is not cut down to it
             await self.refused(method, f"{path}?for=90d", "no calendar by which 90d could be counted")
-            await self.refused(method, f"{path}?for=90d&epochs=7", "epochs or for, and not both")
-            await self.refused(method, f"{path}?epoch=7", "'epoch' is no word of this request's query: it takes epochs")
-            await self.refused(method, f"{path}?epochs=7&deletable=true", "'deletable' is no word")
+            await self.refused(method, f"{path}?for=90d&epochs=7", "send either epochs or for, not both")
+            await self.refused(method, f"{path}?epoch=7", "'epoch' is not a query parameter of this request: it takes")
+            await self.refused(method, f"{path}?epochs=7&deletable=true", "'deletable' is not a query parameter")
 
     async def test_a_length_of_time_counts_by_the_calendar(self) -> None:
-        """Epochs of 14 days since a year before: 14 days are over with the 27th, and what is kept is kept longer."""
+        """Epochs of 14 days that began a year ago: 14 days end within the 27th, so a blob is kept until after it."""
         since = int(time.time() - 365 * DAY) // 60
         await self.operator.post(entry_key(OPERATOR, "calendar", 0, since, 14 * 1_440))
         self.assertTrue(await self.network.until(lambda it: it.calendar[2] > 0))
@@ -51,7 +51,7 @@ class Times(GuardCase):
                 status, _, found = await self.ask("PUT", f"/v1/blobs?for={told}", data=told.encode())
                 self.assertEqual((status, found["endEpoch"]), (201, epochs), told)
             count = len(self.stored)
-            for told, said in (("4y", "no length of time"), ("", "no length of time"), ("9999d", "are 715 epochs")):
+            for told, said in (("4y", "is not a length"), ("", "is not a length"), ("9999d", "are 715 epochs")):
                 status, _, found = await self.ask("PUT", f"/v1/blobs?for={told}", data=b"x")
                 self.assertEqual((status, len(self.stored)), (400, count))
                 self.assertIn(said, found["error"]["text"])
@@ -100,14 +100,14 @@ class Lists(GuardCase):
 
 
 class Known(GuardCase):
-    """What the table of HTTP.md says of Walrus' own gateways."""
+    """The table of HTTP.md for those who know Walrus' own gateways."""
 
     async def test_what_is_not_here_is_refused(self) -> None:
         await self.start()
         for word in ("send_object_to=0x1", "deletable=true", "permanent=true", "encoding_type=RS2"):
             status, _, told = await self.ask("PUT", f"/v1/blobs?epochs=1&{word}", data=b"x")
             self.assertEqual((status, self.stored), (400, []), word)
-            self.assertIn(f"{word.partition('=')[0]!r} is no word", told["error"]["text"])
+            self.assertIn(f"{word.partition('=')[0]!r} is not a query parameter", told["error"]["text"])
         for path in ("/v1/blobs/by-object-id/0x1", "/v1/quilts", "/v1/blobs/by-quilt-patch-id/x"):
             self.assertEqual((await self.ask("GET", path))[0], 404, path)
         self.assertEqual((await self.ask("GET", f"/v1/blobs/{'0' * 64}?filename=a"))[0], 400)
@@ -160,7 +160,7 @@ class Numbers(GuardCase):
 
 class Beside(GuardCase):
     async def test_files_of_a_folder_are_stored_side_by_side(self) -> None:
-        """As many as `AHEAD`, and no more; the manifest comes once all of them are there."""
+        """`AHEAD` of them at once, and no more; the manifest follows once all of them are stored."""
         await self.start()
         true, now, seen = self.gateway.publisher.writer.store, 0, list[int]()
 

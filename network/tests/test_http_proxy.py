@@ -1,4 +1,4 @@
-"""A gateway as others meet it: behind nginx and haproxy as OPERATING.md has them, and in a browser led to it."""
+"""A gateway behind nginx and haproxy as OPERATING.md sets them up, and in a browser that a page has led to it."""
 import asyncio
 import contextlib
 import hashlib
@@ -23,7 +23,7 @@ NGINX, HAPROXY = (shutil.which(it) or shutil.which(it, path="/usr/sbin") for it 
 
 
 class Proxied(GuardCase):
-    """A gateway behind a server that the page tells of, at an address that others reach."""
+    """A gateway behind a proxy that is set up as the page says, at an address that others reach."""
 
     options: dict[str, Any] = {}
 
@@ -54,11 +54,11 @@ class Proxied(GuardCase):
         self.session = await self.enterAsyncContext(aiohttp.ClientSession(connector=connector))
 
     def line(self) -> list[str]:
-        """The command that runs the server."""
+        """Returns the command that runs the proxy."""
         raise NotImplementedError
 
     def told(self, kind: str) -> str:
-        """What the page says, for this place."""
+        """Returns the settings in the page, for this place."""
         page = (HERE.parent / "OPERATING.md").read_text()
         found = re.search(f"```{kind}\n(.*?)```", page, re.DOTALL)
         assert found
@@ -106,7 +106,7 @@ class Nginx(BehindNginx):
         await self.strangers_and_customers()
 
     async def test_who_goes_round_it_is_a_stranger(self) -> None:
-        """What another server passes on without being told of, or nobody, does not come from this machine."""
+        """A request that comes through a proxy unknown to the gateway does not count as from this machine."""
         self.gateway.guard.proxies.clear()
         self.assertEqual((await self.put(), self.stored), (403, []))
 
@@ -152,7 +152,7 @@ class InABrowser(GuardCase):
             self.assertEqual((await browser.evaluate(shown), self.stored), (201, [b"x"]))
 
     async def serve(self, host: str, port: int) -> web.AppRunner:
-        """A server of somebody else, with a page that has nothing."""
+        """Starts a server of somebody else, with an empty page."""
         app = web.Application()
         app.router.add_get("/", lambda _: web.Response(text="<form></form>", content_type="text/html"))
         runner = web.AppRunner(app)
@@ -162,7 +162,7 @@ class InABrowser(GuardCase):
         return runner
 
     async def test_what_asks_without_hearing_the_answer_changes_nothing(self) -> None:
-        """Requests of a page from elsewhere that need no permission of the gateway."""
+        """Requests of a page from elsewhere that browsers send without asking the gateway first."""
         await self.start()
         self.files["0" * 64] = b"there"
         registered = self.enterContext(mock.patch.object(self.network, "register", mock.AsyncMock()))
@@ -226,7 +226,7 @@ class InABrowser(GuardCase):
             await browser.evaluate("document.querySelector('#token button').click()")
             self.assertTrue(await browser.until("document.getElementById('summary').textContent.startsWith('Epoch 0')"))
             self.assertTrue(await browser.until("document.getElementById('token').hidden"))
-            self.assertEqual(await browser.evaluate("location.search"), "")  # it stands in no address
+            self.assertEqual(await browser.evaluate("location.search"), "")  # the token is in no address
 
 
 if __name__ == "__main__":

@@ -65,7 +65,7 @@ class Story(GatewayCase):
         return out.decode()
 
     def forget(self) -> None:
-        """Empties what the gateway keeps."""
+        """Empties the caches of the gateway."""
         self.gateway.reader.cache.entries.clear()
         self.gateway.reader.cache.size = 0
         self.gateway.shelf.kept.clear()
@@ -86,7 +86,7 @@ class Story(GatewayCase):
             (tree / path).write_bytes(data)
         count = len(blobs)
         self.assertEqual((await self.net("store", tree, "--epochs", 3)).split()[0], name)
-        self.assertEqual(len(blobs), count)  # all of it was there
+        self.assertEqual(len(blobs), count)  # all of it was stored before
         self.assertIn("alreadyCertified", await self.put_folder(files))
         await self.local.end("node-2", kill=True)
         self.forget()
@@ -102,7 +102,7 @@ class Story(GatewayCase):
         status, _, body = await self.curl(f"/v1/extend/{name}?epochs=7", "-X", "POST")
         self.assertEqual((status, json.loads(body)["endEpoch"]), (200, 7))
         self.assertEqual({blobs[it].until for it in blobs}, {7})  # packs, files, pieces, their list and the manifest
-        lie = manifest_of(Place("a", "a/b", 9, bytes(32)))  # of what nobody has stored
+        lie = manifest_of(Place("a", "a/b", 9, bytes(32)))  # it names a blob that nobody has stored
         lied = (await self.put(lie))["blobId"]
         await self.refused(404, f"/v1/extend/{lied}?epochs=7", "-X", "POST")
         await self.refused(404, f"/v1/folders/{lied}/a")

@@ -1,6 +1,7 @@
-"""Who is slow holds up nobody: clients that drip, names that are looked up for long, and what a read moves.
+"""Slow peers delay nobody else: clients that send or read slowly, slow name look-ups, and the bytes that a read moves.
 
-Who is slow here is so for longer than any test may take: so what ends did not wait for it, on a busy machine too."""
+What is slow here is slow for longer than any test may take: so whatever ends did not wait for it, however busy the
+machine."""
 import asyncio
 import os
 import socket
@@ -28,7 +29,7 @@ class Slow(SlowCase):
             head = f"PUT /v1/blobs?epochs=2 HTTP/1.1\r\nHost: localhost:{self.port}\r\nConnection: close\r\n"
             writer.write(f"{head}Content-Length: {size}\r\n\r\n".encode())
             for place in range(0, size, STEP):
-                if place == size - STEP:  # a drip is left of it as long as the others go in
+                if place == size - STEP:  # a little of it is left while the others are stored
                     await ends.wait()
                 writer.write(DRAWN.randbytes(STEP))
                 if not ends.is_set():
@@ -41,7 +42,7 @@ class Slow(SlowCase):
             await asyncio.sleep(0.1)
         for _ in range(3):
             await self.put(DRAWN.randbytes(1_000_000))
-        self.assertEqual(done, [])  # they drip still
+        self.assertEqual(done, [])  # they are still slowly sending
         ends.set()
         await asyncio.gather(*tasks)
         self.assertEqual(done, [b"HTTP/1.1 201"] * SLOW)
@@ -51,7 +52,7 @@ class Slow(SlowCase):
         small = (await self.put(b"small"))["blobId"]
         before, _ = usage_of(os.getpid())
         for listener in self.gateway.listening:
-            listener.setsockopt(socket.SOL_SOCKET, socket.SO_SNDBUF, 16 * STEP)  # so that little is taken by the system
+            listener.setsockopt(socket.SOL_SOCKET, socket.SO_SNDBUF, 16 * STEP)  # so that the system buffers little
         readers = [await asyncio.open_connection("127.0.0.1", self.port, limit=2 * STEP) for _ in names]
         for _, writer in readers:
             writer.get_extra_info("socket").setsockopt(socket.SOL_SOCKET, socket.SO_RCVBUF, 16 * STEP)
@@ -60,7 +61,7 @@ class Slow(SlowCase):
             self.assertIn(b"200", await reader.readline())
         after, _ = usage_of(os.getpid())
         self.assertEqual(self.gateway.reader.memory.taken, 0)
-        self.assertLess(after - before, 4_000_000 * SLOW * 3 // 4)  # a third of all where it runs alone
+        self.assertLess(after - before, 4_000_000 * SLOW * 3 // 4)  # a third of all if the machine is idle
         self.assertEqual((await self.get(small))[2], b"small")
         self.assertLess(self.gateway.reader.bytes['way="out"'], 4_000_000 * SLOW)  # they have not taken all of it
         self.assertEqual([bool(reader.exception()) for reader, _ in readers], [False] * SLOW)
@@ -99,7 +100,7 @@ class Slow(SlowCase):
             await asyncio.gather(*lookups)
 
     async def test_a_large_file_overlaps(self) -> None:
-        """A piece is taken while others are stored, and all of it comes back in its order."""
+        """A piece is received while others are stored, and the whole file comes back in order."""
         self.enterContext(mock.patch.object(chunks, "PIECE", 300_000))
         data, most, store = DRAWN.randbytes(3_000_000), 0, self.network.publish
         under_way, overlaps = 0, asyncio.Event()
@@ -111,7 +112,7 @@ class Slow(SlowCase):
             try:
                 if most > 1:
                     overlaps.set()
-                await overlaps.wait()  # for ever, unless another one is taken meanwhile
+                await overlaps.wait()  # for ever, unless another one is received meanwhile
                 return await store(encoded, until)
             finally:
                 under_way -= 1

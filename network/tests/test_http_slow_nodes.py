@@ -1,6 +1,7 @@
-"""Nodes that hang, drip or take nothing hold up nobody, and neither do strangers who wait at them.
+"""Nodes that hang, reply slowly or read nothing delay nobody, and neither do strangers that wait at them.
 
-Who is slow here is so for longer than any test may take: so what ends did not wait for it, on a busy machine too."""
+What is slow here is slow for longer than any test may take: so whatever ends did not wait for it, however busy the
+machine."""
 import asyncio
 import collections
 import contextlib
@@ -22,8 +23,8 @@ from walrus.shards import LONGEST_END
 
 class Nodes(SlowCase):
     async def moves_on(self, useless: str) -> None:
-        """Files go in and out beside a node that is no use. Each store but the first one waits for the others alone,
-        and who reads asks it once at most, until others are asked in its place."""
+        """Stores and reads files beside a useless node. Each store but the first waits only for the other nodes, and a
+        read asks it at most once, until others are asked in its place."""
         for name in ("LEAST", "MOST"):  # so that no other node is taken for late
             self.enterContext(mock.patch(f"walrus.shards.{name}", 20.0))
         exchange, store, wait, ended = peers.Seat.exchange, peers.Seat.store, asyncio.wait, list[object]()
@@ -40,7 +41,7 @@ class Nodes(SlowCase):
             return said
 
         async def stored(seat: peers.Seat, request: list[client.Data], registered: asyncio.Event) -> str:
-            storing.update([asyncio.current_task()] if is_useless(seat) else [])  # it may wait for its turn there, too
+            storing.update([asyncio.current_task()] if is_useless(seat) else [])  # it may still wait for its turn there
             return await store(seat, request, registered)
 
         async def waited(tasks: Any, **words: Any) -> Any:
@@ -55,7 +56,7 @@ class Nodes(SlowCase):
                 name = (await self.put(data))["blobId"]  # curl gives up after 120 s
                 self.gateway.reader.cache.entries.clear()
                 self.assertEqual((await self.get(name))[2], data)
-        self.assertEqual((len(storing), ended), (6, []))  # all of it waits still, and nobody for that
+        self.assertEqual((len(storing), ended), (6, []))  # all of it still waits, and nobody waits for it
         self.assertLessEqual((graces, reads), (1, 1))
 
     async def test_a_node_that_is_stopped(self) -> None:
@@ -65,14 +66,14 @@ class Nodes(SlowCase):
         hung.send_signal(signal.SIGSTOP)
         await self.moves_on("node-2")
         hung.send_signal(signal.SIGCONT)
-        async with asyncio.timeout(ENOUGH):  # it is one of all again once it answers
+        async with asyncio.timeout(ENOUGH):  # it is asked like the others again once it answers
             while self.network.late or any(self.network.behind.values()):
                 await asyncio.sleep(0.1)
         name = (await self.network.store(b"after", 5)).identifier
         self.assertTrue(await self.network.until(lambda it: it.certificate(name) == (0, 4), ENOUGH))
 
     async def test_a_node_that_hangs_is_waited_for_once(self) -> None:
-        """Those pieces of a file that were asked of it when it was found out are late, and no others."""
+        """Only those pieces of a file are late that were asked of it when it was first found to hang."""
         self.enterContext(mock.patch("walrus.shards.LEAST", 20.0))  # so that no other node is taken for late
         self.enterContext(mock.patch("walrus.shards.MOST", 20.0))
         self.enterContext(mock.patch.object(chunks, "PIECE", 100_000))
@@ -83,8 +84,8 @@ class Nodes(SlowCase):
         hung.send_signal(signal.SIGSTOP)
 
         async def counted(seat: peers.Seat, requests: Sequence[client.Request], *heard: Any) -> list[client.Reply]:
-            reads = requests[0][:1] == bytes([client.READ])  # and is no piece that a late node stores still
-            asked[seat.name] += reads and seat.peers is self.network.peers  # and not by who asks whether nodes answer
+            reads = requests[0][:1] == bytes([client.READ])  # and not a piece that a late node is still storing
+            asked[seat.name] += reads and seat.peers is self.network.peers  # and not by the check whether nodes answer
             return await exchange(seat, requests, *heard)
 
         self.enterContext(mock.patch.object(peers.Seat, "exchange", counted))
@@ -97,7 +98,7 @@ class Nodes(SlowCase):
 
     @contextlib.asynccontextmanager
     async def in_place_of(self, node: str, drips: bool) -> AsyncIterator[None]:
-        """A port where a node was, which takes connections: it says a byte of a reply now and then, or nothing."""
+        """Listens in place of a node, accepts connections, and sends a byte of a reply at times, or nothing."""
         await self.local.end(node, kill=True)
 
         async def connect(reader: asyncio.StreamReader, writer: asyncio.StreamWriter) -> None:
@@ -128,7 +129,7 @@ class Nodes(SlowCase):
             await self.moves_on("node-3")
 
     async def asked(self, number: int, request: bytes) -> tuple[asyncio.StreamReader, asyncio.StreamWriter]:
-        """A connection to a node on which somebody who has no certificate has sent a request for its shard."""
+        """Returns a connection to a node on which a client without a certificate has sent a request for its shard."""
         context = ssl.create_default_context()
         context.check_hostname, context.verify_mode = False, ssl.CERT_NONE
         address = self.network.ledger.addresses[f"node-{number}"]
@@ -139,15 +140,15 @@ class Nodes(SlowCase):
         return reader, writer
 
     async def stranger(self, number: int, request: bytes) -> bytes:
-        """What a node first replies to that."""
+        """Returns the first reply of a node to that."""
         reader, writer = await self.asked(number, request)
         with contextlib.closing(writer):
             return (await client.take_envelope(reader, 99_999))[1]
 
     @contextlib.asynccontextmanager
     async def waiting(self, number: int, requests: list[bytes]) -> AsyncIterator[None]:
-        """Strangers who have asked the node of a shard what waits for the ledger, and wait still at the end. The node
-        has what they sent before anything of who comes behind them."""
+        """Strangers that have sent the node of a shard requests that wait for the ledger, and still wait at the end.
+        The node has received these before anything of the clients that follow."""
         asked = [await self.asked(number, request) for request in requests]
         tasks = [asyncio.create_task(client.take_envelope(reader, 99_999)) for reader, _ in asked]
         try:
@@ -161,7 +162,7 @@ class Nodes(SlowCase):
             await asyncio.gather(*tasks, return_exceptions=True)
 
     async def patient(self, node: str) -> None:
-        """Has a node wait for the ledger for longer than this test takes."""
+        """Makes a node wait for the ledger for longer than this test takes."""
         await self.local.end(node)
         await self.local.start_node(node, ODD, {"ODD_PATIENCE": str(LONG)})
 

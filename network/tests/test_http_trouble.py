@@ -1,4 +1,4 @@
-"""What may go wrong: requests that are no requests, uploads that break off, nodes that die or lie, false blobs."""
+"""What may go wrong: malformed requests, uploads that break off, nodes that die or lie, false blobs."""
 import asyncio
 import json
 import random
@@ -47,7 +47,7 @@ class Trouble(GatewayCase):
             await asyncio.gather(*(self.strange(number) for number in range(first, first + 50)))
         self.assertTrue((await self.get(self.name))[2] == data)
         with mock.patch.object(connections, "FIRST", 0.2):
-            self.assertEqual(await self.say(b"", wait=True), b"")  # who says nothing is not kept
+            self.assertEqual(await self.say(b"", wait=True), b"")  # a silent connection is closed
         served = [await asyncio.open_connection("127.0.0.1", self.port) for _ in range(150)]
         await asyncio.sleep(0.2)
         self.assertGreaterEqual(sum(reader.at_eof() or bool(reader.exception()) for reader, _ in served), 50)
@@ -57,7 +57,7 @@ class Trouble(GatewayCase):
         self.assertEqual((await self.get(self.name))[0], 200)
 
     async def wrong_queries(self) -> None:
-        """For how many epochs a file is kept is said, and no more than the gateway allows; no other word is taken."""
+        """The number of epochs must be given and is bounded; other query parameters are refused."""
         numbers = ("", "?epochs=0", "?epochs=-1", "?epochs=x", "?epochs=", "?epochs=1000000", "?epochs=101")
         for path in (*numbers, "?epochs=1&epochs=2", "?epochs=1&epochs=1"):
             await self.refused(400, "/v1/blobs" + path, "-T", __file__)
@@ -73,7 +73,7 @@ class Trouble(GatewayCase):
             self.assertEqual(len(self.network.ledger.blobs), before)
 
     async def say(self, data: bytes, wait: bool = False) -> bytes:
-        """All that comes back for some bytes, until the gateway ends the connection, or behind the end of input."""
+        """Sends bytes, and returns all that comes back until the gateway closes, or after the end of input."""
         reader, writer = await asyncio.open_connection("127.0.0.1", self.port)
         try:
             async with asyncio.timeout(120):
@@ -89,7 +89,7 @@ class Trouble(GatewayCase):
             writer.transport.abort()
 
     async def broken_uploads(self) -> None:
-        """An upload that breaks off, stalls or lies about its length leaves no file, and the gateway goes on."""
+        """An upload that breaks off, stalls or lies about its length leaves no file, and the gateway continues."""
         head = b"PUT /v1/blobs?epochs=2 HTTP/1.1\r\nHost: localhost:%d\r\n" % self.port
         before = len(self.network.ledger.blobs)
         for text in (
@@ -111,7 +111,7 @@ class Trouble(GatewayCase):
         self.assertEqual(len(self.network.ledger.blobs), before)
 
     async def drip(self, head: bytes) -> bytes:
-        """What is said to an upload of a byte every tenth of a second."""
+        """Returns the reply to an upload of a byte every tenth of a second."""
         reader, writer = await asyncio.open_connection("127.0.0.1", self.port)
         writer.write(head)
         heard = asyncio.create_task(reader.readuntil(b"\r\n\r\n"))
@@ -124,7 +124,7 @@ class Trouble(GatewayCase):
         return heard.result() if heard.done() else b""
 
     async def strange(self, number: int) -> None:
-        """No request, however wrong, causes an error of the gateway's own, or is left without an end."""
+        """No request, however wrong, causes an internal error of the gateway, or is left unanswered."""
         kinds = [b"GET", b"HEAD", b"PUT", b"POST", b"OPTIONS", b"get", b"\xff", b""]
         paths = [
             "/v1/blobs",
@@ -231,7 +231,7 @@ class Trouble(GatewayCase):
         await self.declared()
 
     async def declared(self) -> None:
-        """What the ledger says to be invalid is refused, whatever its bytes; the nodes that say so falsely may stop."""
+        """A blob that is declared invalid is refused, whatever its bytes; nodes that attest it falsely may stop."""
         declared = (await self.network.store(b"declared", 5)).identifier
         for node in FOUR[:3]:
             async with self.local.network(node) as it:
@@ -249,7 +249,7 @@ class Trouble(GatewayCase):
         await self.local.end(node, kill=True)
 
     async def slow_put(self, data: bytes) -> Any:
-        """The last bytes come once a node is gone."""
+        """Stores a file whose last bytes are sent once a node is gone."""
         reader, writer = await asyncio.open_connection("127.0.0.1", self.port)
         writer.write(
             b"PUT /v1/blobs?epochs=5 HTTP/1.1\r\nHost: localhost:%d\r\nConnection: close\r\nContent-Length: %d\r\n\r\n"
@@ -266,7 +266,7 @@ class Trouble(GatewayCase):
         return json.loads(body)
 
     async def challenged(self, name: str, node: str, holds: bool) -> bool:
-        """Whether a node is found, in some challenges, to hold a part or to lack it."""
+        """Whether one of some challenges finds that a node holds its part, or, unless `holds`, that it lacks it."""
         for _ in range(20):
             _, _, body = await self.curl(f"/v1/challenges/{name}/{node}", "-X", "PUT")
             if json.loads(body)["holds"] == holds:
@@ -274,7 +274,7 @@ class Trouble(GatewayCase):
         return False
 
     async def bad_blobs(self) -> None:
-        """What was badly encoded, or is a false list, has a status of its own; what is not certified is not there."""
+        """Badly encoded blobs and false lists have a status of their own; a blob that is not certified is not found."""
         encoded = await example_tools.encode_badly(client.Walrus(find_program()))
         bad = (await self.network.publish(encoded, 9)).identifier.hex()
         for _ in range(2):

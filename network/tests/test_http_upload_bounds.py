@@ -1,4 +1,4 @@
-"""Uploads that go on: what is refused, what they cost, and what a full or slow disk does to them."""
+"""Resumable uploads: what is refused, what they cost, and the effect of a full or slow disk."""
 import asyncio
 import contextlib
 import os
@@ -43,7 +43,7 @@ class Refused(UploadCase):
             ("Upload-Complete", "", 400),
         ):
             self.assertEqual((await ask("PATCH", path, data=b"x", headers={**good, name: text}))[0], status, name)
-        self.assertEqual((await self.go_on(path, 5, b"123", end=True))[0], 400)  # nine were told
+        self.assertEqual((await self.go_on(path, 5, b"123", end=True))[0], 400)  # nine were announced
         self.assertEqual((await self.go_on(path, 5, b"12345"))[0], 413)
         for method in ("HEAD", "DELETE"):
             self.assertEqual((await ask(method, path, headers={"Upload-Offset": "5"}))[0], 400)
@@ -111,7 +111,7 @@ class Refused(UploadCase):
 
     async def test_an_upload_leaves_the_reserve_of_the_disk_free(self) -> None:
         await self.start()
-        disk = mock.Mock(f_frsize=1, f_blocks=20_000, f_bavail=1_001)  # of which 1,000 bytes stay free
+        disk = mock.Mock(f_frsize=1, f_blocks=20_000, f_bavail=1_001)  # 1,000 bytes must stay free
         self.enterContext(mock.patch.object(pieces.os, "statvfs", lambda _: disk))
         status, _, told = await self.begin(b"x")
         self.assertEqual((status, list(self.folder.glob("tokens.uploads/*"))), (507, []))
@@ -124,7 +124,7 @@ class Refused(UploadCase):
         disk.f_bavail = 1_300
         status, headers, told = await self.go_on(path, 600, data[600:], end=True)
         self.assertEqual((status, headers["upload-offset"]), (507, "600"))
-        self.assertIn("what has come of an upload stays", told["error"]["text"])
+        self.assertIn("what has come of it stays", told["error"]["text"])
         disk.f_bavail = 2_000
         status, _, told = await self.go_on(path, 600, data[600:], end=True)
         self.assertEqual((status, told["blobId"]), (200, self.name_of(data)))
@@ -142,7 +142,7 @@ class Refused(UploadCase):
     async def test_a_slow_disk_holds_up_nobody_else(self) -> None:
         await self.start()
         path, entered, goes_on = (await self.begin())[1]["location"], threading.Event(), threading.Event()
-        went_on = list[bool]()  # whether the disk was let go on, before it did by itself
+        went_on = list[bool]()  # whether the test let the disk continue, before its time was over
         self.addCleanup(goes_on.set)
 
         def slow(*words: Any) -> None:

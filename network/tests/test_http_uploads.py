@@ -1,4 +1,4 @@
-"""Uploads that go on after a break, as draft-ietf-httpbis-resumable-upload-05 has them: over a store in memory."""
+"""Resumable uploads by draft-ietf-httpbis-resumable-upload-05, over a store in memory."""
 import asyncio
 import hashlib
 import json
@@ -63,7 +63,7 @@ class Going(UploadCase):
             head += f"Content-Length: {3200 - place}\r\n\r\n"
             writer.write(head.encode() + data[place:cut])
             await self.comes(path, cut)
-            if place:  # the second stays, as one does that no longer hears its client
+            if place:  # the second stays, like a connection whose client is gone
                 self.assertEqual(await self.offset(path), cut)
             writer.transport.abort()
         self.assertEqual((await self.ask("GET", path))[2]["stored"], [hashlib.sha256(data[:1_000]).hexdigest()])
@@ -152,7 +152,7 @@ class Example(UploadCase):
     size = 16_777_216
 
     async def run_line(self, line: str, breaks: str = "") -> str:
-        """What a command says; it is ended once something of an upload has come, if that is to break."""
+        """Returns the output of a command; if its upload is to break, it is killed once some data has arrived."""
         line = line.replace("http://127.0.0.1:31415", self.url).replace("FILE", str(self.folder / "file"))
         line = ("exec " if breaks else "") + line.replace("curl ", "curl -q -s ")
         pipes: Any = {"stdout": asyncio.subprocess.PIPE, "stderr": asyncio.subprocess.STDOUT}

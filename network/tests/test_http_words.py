@@ -1,4 +1,4 @@
-"""What the command lines of a gateway and of tokens say comes to where it counts."""
+"""Options on the command lines of a gateway and of tokens reach the code that uses them."""
 import contextlib
 import hashlib
 import io
@@ -25,7 +25,7 @@ class Words(unittest.IsolatedAsyncioTestCase):
         self.folder = pathlib.Path(made.name)
 
     def said(self, *words: object, status: int = 0) -> str:
-        """What walrus-net prints, with this exit status."""
+        """Returns the output of walrus-net, and checks its exit status."""
         out, error = io.StringIO(), io.StringIO()
         with contextlib.redirect_stdout(out), contextlib.redirect_stderr(error):
             with mock.patch.object(sys, "argv", ["walrus-net", *map(str, words)]):

@@ -1,4 +1,4 @@
-"""What comes to a node: nothing is told before it is on the disk, and who gives up leaves nothing there."""
+"""What comes to a node: nothing is confirmed before it is on the disk, and clients that give up leave nothing there."""
 import asyncio
 import errno
 import threading
@@ -22,7 +22,7 @@ from walrus.network.whole import WHOLE, Whole
 
 
 class Held:
-    """Writes to files as they are written, but for nothing is written before it is said."""
+    """Wraps `Files.write`: it counts calls, and writes nothing before it is released."""
 
     def __init__(self) -> None:
         self.true, self.begun, self.goes_on, self.ended = Files.write, 0, threading.Event(), 0
@@ -37,7 +37,7 @@ class Held:
 
 
 async def turns(count: int = 50) -> None:
-    """Lets all go on that can, threads too."""
+    """Let all tasks and threads run that can."""
     for _ in range(count):
         await asyncio.sleep(0.002)
 
@@ -45,7 +45,7 @@ async def turns(count: int = 50) -> None:
 @unittest.skipIf(lacking(), f"{lacking()} is not here (network/install)")
 class GivenUp(ShardCase):
     async def nothing_stays(self, storing: Awaitable[object], ends: Any, fault: type[BaseException]) -> None:
-        """Who stores gives up while files are being written: none of them is there once that has ended."""
+        """Let a client give up while files are being written: none of them is there once that has ended."""
         held, task = Held(), asyncio.ensure_future(storing)
         self.addCleanup(held.goes_on.set)
         with mock.patch.object(Files, "write", lambda *words: held.write(*words)):
@@ -53,12 +53,12 @@ class GivenUp(ShardCase):
                 await asyncio.sleep(0.002)
             ends(task)
             await turns()
-            self.assertFalse(task.done())  # what is written is in memory, and counts, as long
+            self.assertFalse(task.done())  # it waits, as the parts are in memory meanwhile, and count
             held.goes_on.set()
             with self.assertRaises(fault):
                 await task
             self.assertEqual(held.ended, held.begun)
-        self.open()  # which waits until what was removed is gone
+        self.open()  # waits until files are removed
         self.assertEqual(self.files(), [])
 
     async def test_a_part_for_which_nobody_waits_leaves_no_file(self) -> None:
@@ -89,7 +89,7 @@ class GivenUp(ShardCase):
 
 @unittest.skipIf(lacking(), f"{lacking()} is not here (network/install)")
 class Told(ShardCase):
-    """Replies of a node that has this one shard."""
+    """Replies of a node that has only this shard."""
 
     async def asyncSetUp(self) -> None:
         await super().asyncSetUp()
@@ -109,18 +109,18 @@ class Told(ShardCase):
         return taken
 
     def request(self, whole: Whole) -> memoryview:
-        """A request as it came to the port."""
+        """Return a request as it came to the port."""
         return whole.memory[whole.start : whole.end]  # noqa: E203
 
     async def test_nothing_is_told_before_it_is_on_the_disk(self) -> None:
         assert self.store
         request, flush = self.request(await self.whole(250)), self.store.flush
-        self.enterContext(mock.patch.object(self.store, "flush"))  # the disk takes nothing before it is told to
+        self.enterContext(mock.patch.object(self.store, "flush"))  # the disk takes nothing until the test says so
         said = await Node.reply(self.node, 0, request)  # type: ignore[arg-type]
         self.assertEqual(client.split(b"".join(said.parts)), [(0, b"\x30" + bytes([client.DONE]) + bytes(8))])
         assert said.written
         await turns()
-        self.assertEqual((said.written.done(), self.node.posted), (False, []))  # nor is a word given for it
+        self.assertEqual((said.written.done(), self.node.posted), (False, []))  # and it is not acknowledged
         self.assertTrue(flush())
         self.assertTrue(await said.written)
         await turns()
@@ -141,7 +141,7 @@ class Told(ShardCase):
         self.assertEqual(again.parts, said.parts)
 
     async def test_what_the_disk_loses_as_soon_as_it_is_kept_is_told_as_refused(self) -> None:
-        """Else a client hears that parts are stored, and the ledger that the node holds them, which are no more."""
+        """Otherwise clients hear that parts are stored, and the ledger that the node has them, though they are lost."""
         assert self.store
         put = self.store.put
         for is_whole in (True, False):
@@ -151,7 +151,7 @@ class Told(ShardCase):
                 self.assertTrue(self.store.flush())
 
             def lost(*words: Any) -> None:
-                """The disk is full once the last part is staged, before anybody else has a turn."""
+                """Lose what is staged right after the last part, before any other task has a turn."""
                 assert self.store
                 put(*words)
                 if words[3] == (SECONDARY if is_whole else PRIMARY):
@@ -169,10 +169,10 @@ class Told(ShardCase):
             self.assertIn(PRIMARY, self.shard.lacks(whole.identifier))
 
     async def test_no_word_is_given_for_what_is_lost_while_it_is_judged(self) -> None:
-        """Else the ledger certifies a blob of which this node has nothing."""
+        """Otherwise the ledger certifies a blob of which this node has nothing."""
         assert self.store
         whole, ask, lose = await self.whole(250), self.judges.ask, self.store.lose
-        self.assertEqual(code_of(await self.shard.put(bytes(whole.parts[0]))), client.DONE)  # so it is not new later
+        self.assertEqual(code_of(await self.shard.put(bytes(whole.parts[0]))), client.DONE)  # so it is held in part
 
         async def judged(size: int, step: Any, request: bytes, *words: Any) -> Any:
             if request == whole.wish:
@@ -211,7 +211,7 @@ class Told(ShardCase):
     async def test_a_small_reply_keeps_no_more_memory_than_it_has_bytes(self) -> None:
         metadata, primary, _ = await self.put(b"read")
         said = await Node.reply(self.node, 0, client.write_frame(client.Read(primary[1:33])))
-        answered = bytes([client.ANSWER, client.DONE, 0, 0, 0, 2]) + bytes(4)  # behind two frames
+        answered = bytes([client.ANSWER, client.DONE, 0, 0, 0, 2]) + bytes(4)  # after two frames
         self.assertEqual(client.split(b"".join(said.parts)), [(0, metadata), (0, primary), (0, answered)])
         self.assertEqual([len(memoryview(memoryview(it).obj)) for it in said.parts], [said.size])
 
@@ -230,7 +230,7 @@ class Told(ShardCase):
 
 
 class Wanting(unittest.IsolatedAsyncioTestCase):
-    """Steps for which the system has no memory, of which it says so in either way."""
+    """Steps for which the system has no memory; it reports that by one of two exceptions."""
 
     async def asyncSetUp(self) -> None:
         asyncio.get_running_loop().set_debug(False)

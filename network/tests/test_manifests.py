@@ -1,4 +1,4 @@
-"""Manifests of folders: their form, and what a liar's cost."""
+"""Manifests of folders: their form, and what those of a liar cost."""
 import re
 import resource
 import time
@@ -11,7 +11,7 @@ from walrus.network.manifest import MARK, Manifest, Place, Wrong
 
 
 class Manifests(unittest.TestCase):
-    """What a manifest is, without a network."""
+    """The form of manifests, without a network."""
 
     def test_lines_ascend_and_have_one_form(self) -> None:
         good = [
@@ -75,7 +75,7 @@ class Manifests(unittest.TestCase):
             self.assertLess(resource.getrusage(resource.RUSAGE_SELF).ru_maxrss - before, 200_000)  # KiB
 
     def test_a_deep_path_in_a_folder_of_its_own_costs_little_more_than_another_one(self) -> None:
-        """Else a malicious folder of 64 MiB has half of a processor busy for 20 s whenever somebody asks for it."""
+        """Otherwise a malicious folder of 64 MiB keeps half of a processor busy for 20 s at each request."""
         used = list[float]()
         for rest in (b"/".join([b"b" * 244] * 4), b"/".join([b"b"] * 490)):
             text = b"".join(b"%06d/%b\ta/b\t0\t-\n" % (it, rest) for it in range(1_000))

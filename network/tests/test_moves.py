@@ -1,4 +1,4 @@
-"""What a node does in a move of the epoch, and for blobs that it recovers, beside what its disk and others have."""
+"""What a node does in a handover and in a recovery, apart from its disk and from other nodes."""
 import asyncio
 import contextlib
 import io
@@ -7,7 +7,7 @@ import unittest
 from typing import Any
 from unittest import mock
 
-import harness  # noqa: F401  # which says where walrus is
+import harness  # noqa: F401  # so that walrus is found
 from walrus import client
 from walrus.frames import answer
 from walrus.network import handover
@@ -17,7 +17,7 @@ from walrus.network.waiting import Waiting
 
 class Moves(unittest.IsolatedAsyncioTestCase):
     async def test_what_is_lacking_is_not_looked_for_anew_at_each_entry(self) -> None:
-        """Else a node goes over all live blobs without a pause while others register."""
+        """Otherwise a node reads all live blobs without a pause while others register."""
         settled, waiting = 0, Waiting()
 
         async def settle(*_: object) -> int:
@@ -47,7 +47,7 @@ class Moves(unittest.IsolatedAsyncioTestCase):
 
 class Cancelled(unittest.IsolatedAsyncioTestCase):
     async def test_the_own_shard_answers_to_its_end_though_nobody_waits(self) -> None:
-        """Its judge runs in a thread that cannot be ended, and has its memory until then."""
+        """Its judge runs in a thread that cannot be stopped, and has its memory until it ends."""
         begun, goes_on, ended = asyncio.Event(), asyncio.Event(), asyncio.Event()
 
         async def answered(request: bytes) -> list[bytes]:

@@ -1,4 +1,4 @@
-"""Numbers for Prometheus, of a gateway and of a node that was told a port for them, as its library reads them."""
+"""Metrics of a gateway, and of a node with a port for them, as Prometheus' library parses them."""
 import asyncio
 import os
 import unittest

@@ -1,4 +1,4 @@
-"""What a folder that comes takes of the gateway: memory, and time in one step."""
+"""What a folder that arrives costs the gateway: memory, and time in one step."""
 import hashlib
 import pathlib
 import resource

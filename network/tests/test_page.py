@@ -1,4 +1,4 @@
-"""The page of a gateway in a browser, as people store files by it: over a store in memory."""
+"""The page of a gateway in a browser, by which people store files, over a store in memory."""
 import asyncio
 import json
 import os
@@ -21,9 +21,9 @@ class Page(PageCase):
         dropped = self.file(NAME, small)
         await browser.drop("document.getElementById('drop')", dropped)
         await asyncio.sleep(0.5)
-        self.assertEqual(self.blobs, [])  # for how many epochs must be said
+        self.assertEqual(self.blobs, [])  # the number of epochs must be given
         await self.fill("epochs", "7")
-        await browser.drop("document.querySelector('h1')", dropped)  # beside the field nothing is stored
+        await browser.drop("document.querySelector('h1')", dropped)  # what is dropped beside the field is not stored
         await browser.drop("document.getElementById('drop')", dropped)
         name = self.name_of(small)
         self.assertTrue(await browser.until(f"{SENT}.includes('{name}')"), await browser.evaluate(SENT))
@@ -61,7 +61,7 @@ class Page(PageCase):
         await browser.evaluate("document.getElementById('forget').click()")
         self.assertTrue(await browser.until("document.getElementById('own-table').hidden"))
         await browser.evaluate("localStorage.setItem('stored', '[{\"id\": \"javascript:1\"}, 5]'); drawOwn()")
-        self.assertEqual(await browser.evaluate(rows), [])  # whatever stands there
+        self.assertEqual(await browser.evaluate(rows), [])  # whatever the storage has
 
     async def test_a_break_costs_a_piece(self) -> None:
         await self.open()
@@ -93,7 +93,7 @@ class Page(PageCase):
         await self.fill("epochs", "4")
         await browser.choose("files", self.file("file", b"data"))
         await asyncio.sleep(0.5)
-        self.assertEqual(self.blobs, [])  # the token may store for three
+        self.assertEqual(self.blobs, [])  # the token may store for three epochs
         await browser.evaluate("document.getElementById('epochs').value = '3'")
         await browser.choose("files", self.file("long", bytes(11)), self.file("file", b"data"))
         self.assertTrue(await browser.until(f"{SENT}.includes('{self.name_of(b'data')}')"))
@@ -206,7 +206,7 @@ class Page(PageCase):
 
 
 def contrast(one: str, other: str) -> float:
-    """How much two colours differ, as WCAG 2 counts."""
+    """Returns the contrast of two colours by WCAG 2."""
 
     def light(colour: str) -> float:
         parts = [int(colour[place:][:2], 16) / 255 for place in (1, 3, 5)]

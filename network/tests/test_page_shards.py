@@ -1,4 +1,4 @@
-"""The page of a gateway: how far a file is, how many shards of each are left, and each shard of one."""
+"""The page of a gateway: the progress of a file, how many shards of each are live, and each shard of one."""
 import asyncio
 import unittest
 from typing import Any
@@ -40,7 +40,7 @@ class Shards(PageCase):
         self.assertEqual(await self.browser.evaluate(label), f"Copy {name}")
 
     async def test_a_file_on_its_last_shards_is_red(self) -> None:
-        """Of seven shards, two of which may fail: three give the file, and five took it."""
+        """Of seven shards, two may fail: three suffice to read the file, and five stored it."""
         true = self.gateway.watch.status
 
         def status() -> dict[str, Any]:

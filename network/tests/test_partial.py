@@ -1,4 +1,4 @@
-"""What a fetch leaves of a file that did not come whole, and whose that is."""
+"""What an interrupted fetch leaves of a file, and which process may use it."""
 import asyncio
 import contextlib
 import errno
@@ -15,7 +15,7 @@ from walrus.network import checked
 
 
 class Partial(unittest.TestCase):
-    """What a command leaves for the next one, and whose it is."""
+    """What a command leaves for the next one, and which process may use it."""
 
     def setUp(self) -> None:
         made = tempfile.TemporaryDirectory(prefix="walrus-partial-")
@@ -28,7 +28,7 @@ class Partial(unittest.TestCase):
         return sorted(path.name for path in self.folder.iterdir())
 
     def give_up(self, size: int, fault: BaseException, output: str = "out") -> None:
-        """Writes so much more of a file, and then this goes wrong."""
+        """Writes this much more of a file, and then raises this fault."""
         with contextlib.suppress(type(fault)):
             with checked.written_whole(str(self.folder / output), self.name) as file:
                 file.seek(0, os.SEEK_END)
@@ -67,7 +67,7 @@ class Partial(unittest.TestCase):
         self.assertEqual((self.out.stat().st_size, self.left()), (PIECE, ["out"]))
 
     def test_what_another_one_begins_meanwhile_is_its_own(self) -> None:
-        """One begins just as another one has ended, or is about to give up: both end well, whichever is first."""
+        """One begins just as another one has ended or is about to give up: both end well, in either order."""
         for patched, size in (("replace", PIECE), ("unlink", 1)):
             call, second = getattr(os, patched), contextlib.ExitStack()
             begun = list[IO[bytes]]()

@@ -1,5 +1,5 @@
-"""What is stored at a node: who waits no more for it keeps nothing of it, and few large blobs are sent at once; and the
-threads that look nodes up."""
+"""Storing at a node: callers that give up leave nothing in memory, and few large blobs are sent at once. And the
+threads that resolve the names of nodes."""
 import asyncio
 import pathlib
 import re
@@ -17,7 +17,7 @@ from walrus.network.peers import FIGURES, LANES, LARGE, LOOKUPS, Peers, Seat
 
 
 class Wire:
-    """A connection to a shard that takes nothing before it is told to, and then says that it is done."""
+    """A connection to a shard that accepts nothing until the test says so, and then replies that it is done."""
 
     def __init__(self, code: int = client.DONE):
         self.transport, self.takes, self.is_aborted, self.size = self, asyncio.Event(), False, 0
@@ -75,13 +75,13 @@ class Storing(unittest.IsolatedAsyncioTestCase):
             wire.takes.set()
         self.assertEqual(await small, "")
         await self.turns()
-        self.assertEqual(len(self.wires), 4)  # the third large one has the place of the first
+        self.assertEqual(len(self.wires), 4)  # the third large one takes the place of the first
         for wire in self.wires:
             wire.takes.set()
         self.assertEqual(await asyncio.gather(*large), [""] * 3)
 
     async def test_who_gives_up_before_it_is_his_turn_leaves_nothing_behind(self) -> None:
-        """Else what anybody may ask of a node that hangs would wait for it without end."""
+        """Otherwise requests to a node that hangs, which anybody may cause, would pile up without end."""
         asked = client.write_frame(client.Read(bytes(32)))
         for _ in range(5):
             asking = [asyncio.create_task(self.seat.ask(asked)) for _ in range(20)]
@@ -101,8 +101,8 @@ class Storing(unittest.IsolatedAsyncioTestCase):
         self.assertEqual((len(self.seat.exchanges), len(self.wires), self.seat.late), (0, LANES + 1, False))
 
     async def test_who_hears_nothing_trusts_no_connection_that_is_as_old(self) -> None:
-        """A firewall that begins anew drops what comes over all of them, and says nothing: else each one costs a
-        request its deadline, one after the other."""
+        """A firewall that restarts drops silently what comes over all of them: otherwise each of them in turn costs a
+        request its deadline."""
         self.seat.idle = [*(old := [Wire() for _ in range(LANES)])]  # type: ignore[list-item]
         with mock.patch.object(self.seat, "seconds", 0.05), self.assertRaises(ConnectionError):
             await self.seat.ask(client.write_frame(client.Read(bytes(32))))
@@ -124,7 +124,7 @@ class Addresses(unittest.IsolatedAsyncioTestCase):
         return host
 
     async def test_an_address_that_drops_what_is_sent_costs_time_once(self) -> None:
-        """Else a node that has two of them is out of reach as soon as a firewall drops what is sent to the first."""
+        """Otherwise a node with two addresses is out of reach once a firewall drops what is sent to the first one."""
         with mock.patch.object(ssl, "create_default_context"):
             peers = Peers(mock.Mock(addresses={"node-2": ("", 1)}), pathlib.Path("authority.crt"), 30)
         self.addAsyncCleanup(peers.close)
@@ -146,7 +146,7 @@ class Addresses(unittest.IsolatedAsyncioTestCase):
 
 class Threads(unittest.IsolatedAsyncioTestCase):
     async def test_a_node_that_no_thread_looks_up_is_at_fault_alone(self) -> None:
-        """Else a store would fail that others have taken, and a gateway end that asks its nodes."""
+        """Otherwise a store that the other nodes accepted would fail, and a gateway that asks its nodes would end."""
         ledger: Any = types.SimpleNamespace(addresses={"node-2": ("node-2.example", 1)})
         with mock.patch.object(ssl, "create_default_context"):
             peers = Peers(ledger, pathlib.Path("authority.crt"), 30)
@@ -159,8 +159,8 @@ class Threads(unittest.IsolatedAsyncioTestCase):
                 await peers.told("node-2", FIGURES)
 
     def test_a_gateway_has_all_of_its_threads(self) -> None:
-        """Those of what is encoded, of each asyncio's own and as many processes, on a machine of 128 processors; and
-        those that look up the nodes of its network, and of its page."""
+        """On a machine of 128 processors: those that encode, asyncio's own and as many processes, and those that
+        resolve the nodes of its network and of its page."""
         told = re.search(r"^TasksMax=(\d+)$", (HERE.parent / "units/walrus-gateway@.service").read_text(), re.MULTILINE)
         assert told
         threads = 1 + 3 * 128 + pieces.THREADS + shelf.LISTS._max_workers + 2 * LOOKUPS

@@ -1,4 +1,4 @@
-"""What one address may have all others wait for at a port: turns, connections and handshakes."""
+"""How far clients of one address can make all others wait at a port: for turns, connections and handshakes."""
 import asyncio
 import collections
 import contextlib
@@ -9,7 +9,7 @@ import unittest
 from typing import Any, Callable
 from unittest import mock
 
-import harness  # noqa: F401  # which says where walrus is
+import harness  # noqa: F401  # sets the path to walrus
 from walrus import client, fairness, frames, port
 from walrus.frames import answer
 from walrus.network import certificates
@@ -17,7 +17,7 @@ from walrus.network import certificates
 
 class Places(unittest.IsolatedAsyncioTestCase):
     async def test_who_gives_up_costs_those_behind_no_turn(self) -> None:
-        """Else who has waited for so long that the first give up is passed over, again and again."""
+        """Otherwise a waiter would be passed over again and again if others of its origin, before it, gave up."""
         asyncio.get_running_loop().set_debug(False)
         places, order = fairness.Fair(1), list[str]()
 
@@ -63,7 +63,7 @@ class Ports(unittest.IsolatedAsyncioTestCase):
         return port.Said([client.envelope(answer(client.DONE), shard)])
 
     async def ask(self, number: int, host: str) -> tuple[asyncio.StreamReader, asyncio.StreamWriter]:
-        """Has something asked by a connection of its own."""
+        """Send a request over a new connection."""
         streams = await asyncio.open_connection("127.0.0.1", self.place, local_addr=(host, 0))
         self.addCleanup(streams[1].transport.abort)
         streams[1].write(client.envelope(client.write_frame(client.Read(bytes(32))), number))
@@ -98,7 +98,7 @@ class Ports(unittest.IsolatedAsyncioTestCase):
         self.goes_on = asyncio.Semaphore(99)
         reader, _ = await self.ask(1, "127.0.0.3")
         self.assertEqual(await client.take_envelope(reader, 99), (1, answer(client.DONE)))
-        many = [await self.ask(2, "127.0.0.2") for _ in range(12)]  # each of which has a reply, and later than that one
+        many = [await self.ask(2, "127.0.0.2") for _ in range(12)]  # each has a reply, and later than the first one
         for it, _ in many:
             with contextlib.suppress(OSError, EOFError):
                 await client.take_envelope(it, 99)
@@ -155,7 +155,7 @@ class Handshakes(Ports):
         self.assertEqual((len(self.made.connections), self.made.kept), (0, 0))
 
     async def test_long_requests_that_come_with_the_end_of_a_handshake_are_answered(self) -> None:
-        """They are more than what is taken ahead of who reads."""
+        """They are longer than what a connection receives ahead of its reader."""
         self.goes_on, came, goes = asyncio.Semaphore(99), ssl.MemoryBIO(), ssl.MemoryBIO()
         tls, (reader, writer) = self.trusting.wrap_bio(came, goes, server_hostname="node"), await self.come("127.0.0.2")
 

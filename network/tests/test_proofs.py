@@ -1,5 +1,5 @@
-"""Long proofs of bad encoding: who reads or recovers asks for them one by one where the rest is too little, and who
-lies takes no memory by what is as long."""
+"""Long proofs of bad encoding: clients that read or recover request them one by one if the other replies are too few,
+and a liar takes no memory with payloads that are as long as a proof."""
 import asyncio
 import struct
 import types
@@ -8,7 +8,7 @@ import weakref
 from typing import Any, Sequence
 from unittest import mock
 
-import harness  # noqa: F401  # which says where walrus is
+import harness  # noqa: F401  # sets the path to walrus
 from walrus import audit, bundles, client, frames, shapes, wire
 from walrus.network import page, recovery
 from walrus.network.heads import Lengths
@@ -26,18 +26,18 @@ def sliver(shard: int) -> bytes:
 
 
 def proof(word: bytes) -> bytes:
-    """As long as a proof of this blob, and with the front of one."""
+    """Return a payload with the length and prefix of a proof of this blob."""
     return (bytes([client.PROOF]) + NAME + struct.pack(">BHH", client.PRIMARY, 0, 3) + word).ljust(PROOF, b"p")
 
 
 def opening(cross: int) -> bytes:
-    """As long as an opening of the secondary sliver 0 of this blob, and with the front of one."""
+    """Return a payload with the length and prefix of an opening of secondary sliver 0 of this blob."""
     front = bytes([client.OPENING]) + NAME + struct.pack(">BHHI", client.SECONDARY, 0, cross, SYMBOL)
     return front.ljust(36 + 71 + SYMBOL, b"o")
 
 
 class Walrus:
-    """Takes two slivers for a blob, two openings for a sliver, and what says so for a proof."""
+    """Accepts any two slivers as a blob, any two openings as a sliver, and as a proof the one that says "true"."""
 
     def __init__(self) -> None:
         self.ran, self.checked = list[str](), list[int]()
@@ -59,7 +59,7 @@ class Walrus:
 
 
 class Shard(client.Shard):
-    """A shard behind a connection of its own, whose bytes come where they are wanted."""
+    """A shard behind a `Wire`, whose bytes are read straight into the basket's memory."""
 
     def __init__(self, number: int, port: int):
         super().__init__(number, 1, 60)
@@ -87,7 +87,7 @@ class ProofCase(unittest.IsolatedAsyncioTestCase):
         self.enterContext(mock.patch.object(wire, "memory", counted))
 
     async def shards(self, replies: Sequence[Sequence[bytes]], silent: Sequence[int] = ()) -> list[client.Shard]:
-        """Shards that reply so to whatever they are asked; some of them once alone."""
+        """Return shards that give these replies to any request; the `silent` ones reply only once."""
         made = list[client.Shard]()
         for number, reply in enumerate(replies):
 
@@ -127,7 +127,7 @@ class Reading(ProofCase):
         )
         self.assertEqual((status, text), (3, client.envelope(proof(b"true"))))
         self.assertEqual(sorted(self.asked[:4]), [0, 1, 2, 3])
-        self.assertEqual(self.asked[4:], [0, 1, 2])  # one after the other, until one proves it
+        self.assertEqual(self.asked[4:], [0, 1, 2])  # one after the other, until one has a valid proof
         self.assertEqual((self.memory.count(PROOF), self.walrus.checked), (3, [2, 2, 2]))
         with self.assertRaises(client.Refused) as caught:
             await client.fetch(shards, NAME, self.walrus)  # type: ignore[arg-type]
@@ -171,10 +171,11 @@ class Reading(ProofCase):
 
 
 class Asking(ProofCase):
-    """One shard that is asked for several symbols, of a column or for a challenge, and has a proof in their place."""
+    """One shard that is asked for several symbols, of a column or for a challenge, and replies a proof, too."""
 
     async def replies(self, *behind: bytes, ends: bool = True) -> client.Shard:
-        """A shard that replies with the metadata, these, the opening that is asked for, if it gives any, and an end."""
+        """Return a shard that replies with the metadata, these payloads, the requested opening, and an end; without
+        `ends` it stops in the middle of the opening."""
 
         async def answer(reader: Any, writer: Any) -> None:
             while True:
@@ -226,7 +227,7 @@ class Asking(ProofCase):
         async with asyncio.timeout(30):  # a shard may take 60 s
             await columns.recover(0)
         self.assertEqual((self.walrus.ran, [*columns.metadata], self.asked), (["recover"], [METADATA], [1, 2, 3]))
-        shards[0].late = True  # so it is not known whether it holds its column
+        shards[0].late = True  # so it is unknown whether it holds its column
         shards[2].fault = shards[3].fault = "gone"
         with self.assertRaises(client.TooFew):
             async with asyncio.timeout(5):
@@ -247,7 +248,7 @@ class Asking(ProofCase):
 
 
 class Recovering(ProofCase):
-    """A node that recovers a sliver, and whoever wants no more than a metadata."""
+    """A node that recovers a sliver, and code that needs only the metadata."""
 
     target = client.Symbol(NAME, client.SECONDARY, 0)
 

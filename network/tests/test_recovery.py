@@ -1,4 +1,4 @@
-"""What a node recovers, and what it leaves alone: where it has no room, may not store, or would hold up others."""
+"""What a node recovers, and what it does not: if it has no room, may not store it, or would delay others."""
 import asyncio
 import functools
 import sqlite3
@@ -23,7 +23,7 @@ AWAY, COUNTED = [answer(*client.LEDGER_AWAY)], [answer(13, 1)]
 @unittest.skipIf(lacking(), f"{lacking()} is not here (network/install)")
 class Left(NodeCase):
     async def test_what_the_disk_has_no_room_for_is_not_fetched(self) -> None:
-        """Of two pages a blob of 30,000 takes more for each of its slivers."""
+        """Two and a half pages are free; each sliver of a blob of 30,000 bytes takes more than two."""
         large, small = await self.lacks(30_000), await self.lacks(700)
         node = self.node({0: {0: self.shard}})
         node.port.tell, self.shard.reserve = mock.Mock(), 1.0
@@ -33,12 +33,12 @@ class Left(NodeCase):
         self.assertEqual((left, self.shard.settled(small)), ([1, 1], True))
         self.assertEqual({it.args[1].identifier for it in asked.call_args_list}, {small})
         said = [it.args[0] for it in node.port.tell.call_args_list]
-        self.assertEqual(said, ["a: the disk has no room for what is lacking (network/OPERATING.md)"] * 2)
+        self.assertEqual(said, ["a: the disk has no room for the missing blobs (network/OPERATING.md)"] * 2)
         with self.free(0.3):
             self.assertEqual(await recovery.settle(node, 0, [large, small]), 0)
 
     async def test_what_a_disk_could_not_read_for_a_moment_is_taken_back_and_nobody_is_asked(self) -> None:
-        """Else a storage that fails under more than f nodes leaves blobs unreadable whose every byte is there."""
+        """Otherwise storage that fails briefly under more than f nodes leaves blobs unreadable, with no byte lost."""
         assert self.store
         metadata, primary, _ = await self.put(bytes(range(250)) * (LARGE // 250))
         name, node = primary[1:33], self.node({0: {0: self.shard}})
@@ -61,8 +61,8 @@ class Left(NodeCase):
         node = self.node({0: {0: self.shard}, 1: {0: self.side(1)}})
         await recovery.settle(node, 0, names)
         self.assertEqual([it.asked for it in self.seats], [[]] * 4)
-        self.enterContext(mock.patch.object(self.shard, "check"))  # by which it would be right after all
-        for part in (METADATA, PRIMARY):  # what went wrong it takes
+        self.enterContext(mock.patch.object(self.shard, "check"))  # which would find it sound
+        for part in (METADATA, PRIMARY):  # it takes parts that replace wrong ones
             self.store.mark(self.shard.holding, held, part, True)
             await recovery.settle(node, 0, [*names, held])
             self.assertTrue(self.shard.settled(held))
@@ -83,7 +83,7 @@ class Left(NodeCase):
         fill.assert_not_called()
 
     async def test_who_settles_many_blobs_lets_others_have_turns(self) -> None:
-        """Else whoever registers many stops each node that is new, or has lost its disk, until systemd kills it."""
+        """Otherwise many registered blobs block each node that is new or lost its disk, until systemd kills it."""
         looks = most = 0
 
         def look(*_: object) -> bool:
@@ -126,7 +126,7 @@ class Left(NodeCase):
         self.assertEqual((node.progress.of, node.progress.blobs), (5, 5))
 
     async def test_what_was_there_and_is_lost_meanwhile_is_lacking(self) -> None:
-        """A client stores a blob while a node looks at what it holds, and the disk does not take it."""
+        """A client stores a blob while a node looks at what it holds, and then the disk loses the blob."""
         assert self.store
         names = sorted([await self.lacks(700), await self.lacks(700)])
         usual, node, late = self.store.settled, self.node({0: {0: self.shard}}), self.others[names[0]]
@@ -141,7 +141,7 @@ class Left(NodeCase):
             return found
 
         self.enterContext(mock.patch.object(recovery, "PAGE", 1))
-        for _ in range(2):  # while the other one is recovered, and then while it is there
+        for _ in range(2):  # first while the other one is recovered, then while it is there
             with mock.patch.object(self.store, "settled", settled):
                 self.assertGreater(await recovery.settle(node, 0, Listed(names)), 0)
             self.assertEqual([self.shard.settled(it) for it in names], [False, True])
@@ -151,7 +151,7 @@ class Left(NodeCase):
         bad = await example_tools.encode_badly(self.walrus)
         name, self.others[bad.identifier] = bad.identifier, bad
         self.apply("x", "register", name.hex(), 9)
-        target = client.Symbol(name, client.SECONDARY, 2)  # a row that is false
+        target = client.Symbol(name, client.SECONDARY, 2)  # a row that is badly encoded
         _, self.proofs[name] = await client.recover([self.seats[1], self.seats[3]], target, self.walrus)
         for poster in "bcd":
             self.apply(poster, "ack", 0, name.hex())

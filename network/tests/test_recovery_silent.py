@@ -1,4 +1,4 @@
-"""Nodes that recover blobs which few others hold, while one node says nothing: they wait for it as seldom as may be."""
+"""Nodes that recover blobs that few others hold while one node is silent: they wait for it as rarely as possible."""
 import asyncio
 import collections
 import contextlib
@@ -9,18 +9,18 @@ import unittest
 from typing import Any, Sequence
 from unittest import mock
 
-import harness  # noqa: F401  # which says where walrus is
+import harness  # noqa: F401  # so that walrus is found
 from walrus import client
 from walrus.frames import PRIMARY, SECONDARY, answer, part_of
 from walrus.network import recovery
 from walrus.network.judge import Room
 from walrus.network.peers import Seat
 
-FAULTS, TURNS = 2, 5_000  # shards that may lie, and turns of the loop in which each must answer, on a slow machine too
+FAULTS, TURNS = 2, 5_000  # faulty shards; turns of the event loop for an answer, even if slow
 SHAPE = client.Shape(FAULTS)
 METADATA = bytes([client.METADATA]) + struct.pack(">HQ", FAULTS, 30) + bytes(64 * SHAPE.shards)
 NAMES = [it.to_bytes(32, "big") for it in range(96)]
-OWNERS = ["c", "d", "a", "a", "b", "e", "e"]  # who has each shard: c and d lack all, e says nothing
+OWNERS = ["c", "d", "a", "a", "b", "e", "e"]  # the node of each shard: c and d lack everything, e is silent
 FIND = recovery.find_metadata
 FULL, SILENT = (2, 3, 4), (5, 6)
 
@@ -35,7 +35,7 @@ def sliver(identifier: bytes, axis: int, index: int) -> bytes:
 
 
 class Walrus:
-    """Makes a sliver of as many openings as one takes."""
+    """Recovers a sliver once there are as many openings as that takes."""
 
     async def run(self, *words: Any, data: Any = b"") -> tuple[int, bytes]:
         payloads = {bytes(it) for _, it in client.split(b"".join(data) if isinstance(data, list) else bytes(data))}
@@ -50,7 +50,7 @@ class Walrus:
 
 
 class Shard:
-    """A shard, of which only is known which slivers it has of each blob."""
+    """A shard that knows only which slivers of each blob it has."""
 
     epoch, title, ledger = 0, "a shard", types.SimpleNamespace(faults=FAULTS)
 
@@ -77,7 +77,7 @@ class Shard:
         self.held[payload[1:33]].add(part_of(payload))
 
     async def answer(self, request: bytes) -> list[bytes]:
-        """An opening of a sliver of another shard, which is in the own sliver of the other axis."""
+        """Return the opening of another shard's sliver that this shard's sliver of the other axis contains."""
         identifier, axis = request[1:33], request[33]
         if (SECONDARY if axis == client.PRIMARY else PRIMARY) not in self.held[identifier]:
             return [answer(2)]
@@ -86,11 +86,11 @@ class Shard:
 
 
 class Other(Seat):
-    """A shard of another node as a node sees it."""
+    """A shard of another node, as the recovering node sees it."""
 
     def __init__(self, case: "Silent", number: int):
         super().__init__(mock.Mock(seconds=60), OWNERS[number], number, FAULTS)
-        self.case, self.late = case, number in SILENT  # which it has been to a blob before
+        self.case, self.late = case, number in SILENT  # it was late for an earlier blob
 
     async def exchange(self, requests: Sequence[Any]) -> list[client.Reply]:
         if self.number in SILENT:
@@ -109,7 +109,7 @@ class Other(Seat):
 
 
 class Silent(unittest.IsolatedAsyncioTestCase):
-    """Blobs with a certificate of f+1 shards that hold them, and of f that said so and say nothing more."""
+    """Certified blobs that f+1 shards hold; f others acknowledged them and are silent now."""
 
     async def asyncSetUp(self) -> None:
         asyncio.get_running_loop().set_debug(False)
@@ -119,11 +119,11 @@ class Silent(unittest.IsolatedAsyncioTestCase):
             for name in NAMES:
                 self.shards[number].held[name] = {PRIMARY, SECONDARY}
         self.enterContext(mock.patch.object(recovery, "find_metadata", mock.AsyncMock(return_value=METADATA)))
-        self.enterContext(mock.patch("walrus.shards.LEAST", 60.0))  # nobody else is late, however slow this machine is
+        self.enterContext(mock.patch("walrus.shards.LEAST", 60.0))  # no other is late, however slow this machine is
         self.enterContext(mock.patch("walrus.shards.MOST", 60.0))
 
     def node(self, number: int) -> Any:
-        """As much as recovers of the node that has a shard."""
+        """Return what recovery needs of the node that has a shard."""
         made: Any = types.SimpleNamespace(name=OWNERS[number], sides={0: {number: self.shards[number]}})
         made.ledger = types.SimpleNamespace(now=OWNERS, next=(), faults=FAULTS, certificate=lambda it: True)
         seats = [Other(self, it) for it in range(7)]
@@ -134,7 +134,7 @@ class Silent(unittest.IsolatedAsyncioTestCase):
         return made
 
     async def settle(self, node: Any) -> None:
-        """Has a node recover all, as often as it takes."""
+        """Let a node recover until nothing is missing."""
         while await recovery.settle(node, 0, NAMES):
             pass
 
@@ -145,10 +145,10 @@ class Silent(unittest.IsolatedAsyncioTestCase):
             await self.waits.wait()
         self.assertEqual([self.shards[0].lacks(it) for it in NAMES], [[PRIMARY]] * len(NAMES))
         self.assertEqual((node.progress.of, node.progress.blobs), (len(NAMES), 0))
-        first.cancel()  # as a kill ends it
+        first.cancel()  # as if the node were killed
         await asyncio.wait([first])
         for name in NAMES:
-            self.shards[1].held[name] = {SECONDARY}  # the other node has come as far meanwhile
+            self.shards[1].held[name] = {SECONDARY}  # the other node has recovered as much meanwhile
         node, waited = self.node(0), self.waited
         self.assertEqual(await recovery.settle(node, 0, NAMES), 0)
         self.assertEqual((node.progress.of, node.progress.blobs, self.waited), (len(NAMES), len(NAMES), waited))
@@ -174,7 +174,7 @@ class Silent(unittest.IsolatedAsyncioTestCase):
             self.assertEqual((await settling, node.progress.blobs), (0, len(NAMES)))
 
     async def test_of_all_that_is_lacking_so_much_is_listed_at_once(self) -> None:
-        """And nothing is said to be there as long as one of the first ones is lacking."""
+        """And it does not return 0 as long as one of the first blobs is missing."""
         node, listed, recover_all = self.node(0), list[int](), recovery.recover_all
 
         async def listing(node: Any, work: list[recovery.Lack], progress: recovery.Progress) -> int:
@@ -191,7 +191,7 @@ class Silent(unittest.IsolatedAsyncioTestCase):
         self.assertEqual((listed, node.progress.blobs), ([24] * 4, len(NAMES) - 1))
 
     async def test_what_nobody_has_holds_up_nothing_that_is_certified(self) -> None:
-        """Else a node that lost its disk stays empty, as somebody has had it keep many blobs that no other node has."""
+        """Otherwise a node that lost its disk stays empty if it had acknowledged many blobs that no other node has."""
         node, certified = self.node(0), NAMES[:2]
         node.ledger.certificate, node.store.parts = certified.__contains__, lambda *_: []
 

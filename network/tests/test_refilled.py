@@ -1,4 +1,4 @@
-"""A node that was away, or whose disk changed a bit, is filled again; the proved core replays each run at its end."""
+"""A node that was away, or whose disk flipped a bit, is filled again. At the end the proved core replays each run."""
 import asyncio
 import contextlib
 import json
@@ -20,7 +20,7 @@ class Refilled(NetworkCase):
         path = self.folder / "recorder-0.toml"
         configuration.write(RecorderSettings, path, configuration.values_of(path) | {"patience": 0})
         await self.local.up(FOUR)
-        self.faulty = {"node-3"}  # it forgets what its shard held before the epoch that it misses
+        self.faulty = {"node-3"}  # it forgets what its shard held before the missed epoch
         async with self.local.network() as network, self.local.network(OPERATOR) as operator:
             for missed, epoch in ((1, 1), (2, 2)):
                 for _ in range(4):
@@ -32,7 +32,7 @@ class Refilled(NetworkCase):
                     await operator.begin(1, FOUR)
                     self.assertTrue(await operator.until(lambda it, each=each: it.epoch == each, 60), self.logs())
                 await self.store(network, 3_000)
-                for _ in range(300):  # until what the node has not heard is dropped
+                for _ in range(300):  # until entries are dropped that the node has not heard
                     async with contextlib.aclosing(network.recorders.follow(before)) as news:  # type: ignore[type-var]
                         if (await anext(news)).pieces:
                             break
@@ -48,7 +48,7 @@ class Refilled(NetworkCase):
         await self.check()
 
     async def recovered(self, name: str, count: int) -> None:
-        """Waits until a node has so many slivers."""
+        """Wait until a node has `count` slivers."""
         for _ in range(150):
             if len(self.slivers(name)) == count:
                 break

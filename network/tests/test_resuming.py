@@ -1,5 +1,5 @@
-"""What uploads that go on come to where more breaks than a connection: after a power loss of the gateway, and while it
-answers that it cannot go on just now."""
+"""Resumable uploads when more than a connection breaks: after a power loss of the gateway, and while it answers that
+it cannot continue at present."""
 import asyncio
 import os
 import pathlib
@@ -32,14 +32,14 @@ class PowerLoss(UploadCase):
             await self.begin()
         for path in self.folder.glob("tokens.uploads/*/about"):
             os.truncate(path, 0)
-        self.assertEqual((await self.begin())[0], 429)  # it may be that one has just begun
+        self.assertEqual((await self.begin())[0], 429)  # one of them may have just begun
         self.age(unfinished.UNHEARD + 1, [it.name for it in (self.folder / "tokens.uploads").iterdir()])
         self.assertEqual((await self.begin())[0], 201)
 
 
 class Full(unittest.TestCase):
     def test_a_disk_that_takes_a_part_of_a_piece_s_name_loses_neither_that_name_nor_the_piece(self) -> None:
-        """The first 4 of its 33 bytes are the last ones of a page of the disk."""
+        """The first 4 of its 33 bytes are the last ones in a page of the disk."""
         folder, count = pathlib.Path(self.enterContext(tempfile.TemporaryDirectory())), 124
         (folder / "about").write_text("{}")
         (folder / "names").write_bytes(bytes(33 * count))
@@ -59,10 +59,10 @@ class Full(unittest.TestCase):
 
 
 class Away(unittest.IsolatedAsyncioTestCase):
-    """The command, which knows where an upload goes on that it began before."""
+    """The command, which knows the URL of an upload that it began before."""
 
     async def send(self, *said: Any) -> Any:
-        """What it comes to where the gateway says this of the upload, one after the other."""
+        """Returns the outcome if the gateway gives these replies about the upload, one after the other."""
         sending = resuming.Sending(mock.Mock(), mock.Mock(), mock.Mock(), mock.Mock())
         known = mock.Mock(**{"find.return_value": "/v1/uploads/1"})
         with (

@@ -1,4 +1,4 @@
-"""What is wrong with settings by their values and by whoever runs them, and names that nothing can have."""
+"""Faults of settings in their values and for the user who runs them, and names that nothing can have."""
 import asyncio
 import contextlib
 import io
@@ -23,7 +23,7 @@ SHOWN = "LoadState=loaded\nMemoryMax=4294967296\nReadWritePaths=/mnt/disk\nState
 
 
 class SettingsCase(unittest.IsolatedAsyncioTestCase):
-    """A node, a recorder and a gateway in a folder, with nothing wrong."""
+    """Settings of a node, a recorder and a gateway in a folder, without faults."""
 
     async def asyncSetUp(self) -> None:
         asyncio.get_running_loop().set_debug(False)
@@ -39,14 +39,14 @@ class SettingsCase(unittest.IsolatedAsyncioTestCase):
         machine.gateway(Place("gate", "127.0.0.1", 31_415))
 
     def change(self, file: str, **values: Any) -> pathlib.Path:
-        """A file of settings with these in place of what it has, or beside it."""
+        """Write these settings to a file, in place of what it has or as new ones, and return its path."""
         path = self.folder / f"{file}.toml"
         lines = [it for it in path.read_text().splitlines() if it.partition(" = ")[0] not in values]
         path.write_text("\n".join([*lines, *(f"{name} = {it}" for name, it in values.items()), ""]))
         return path
 
     async def says(self, *words: object) -> str:
-        """What a command of walrus-net says that needs no ledger."""
+        """Return the output of a command of walrus-net that needs no ledger."""
         out = io.StringIO()
         with mock.patch("sys.argv", ["walrus-net", *map(str, words)]), contextlib.redirect_stdout(out):
             parsed = commands.parse()
@@ -125,7 +125,7 @@ class Values(SettingsCase):
 
 
 class Root(SettingsCase):
-    """Files whose settings a unit runs, checked by root."""
+    """Settings with which a unit runs, checked by root."""
 
     async def asyncSetUp(self) -> None:
         await super().asyncSetUp()

@@ -1,4 +1,4 @@
-"""A shard over its disk: what it answers, and what a bad disk does to that."""
+"""A shard with its disk: what it answers, and what a bad disk changes about that."""
 import asyncio
 import contextlib
 import shutil
@@ -49,7 +49,7 @@ class Disk(ShardCase):
         self.assertEqual([size < SMALL for size in sizes], [True, True, False], sizes)
 
     async def flip(self, spoil: Any) -> None:
-        """A part is spoilt behind the node's back: it never leaves, is known then, and another takes its place."""
+        """Spoil a part behind the node's back: it is never sent, stays marked after a restart, and can be replaced."""
         metadata, primary, secondary = await self.put(bytes(range(250)) * (LARGE // 250))
         identifier = primary[1:33]
         spoil()
@@ -60,7 +60,7 @@ class Disk(ShardCase):
         self.assertEqual(self.shard.lacks(identifier), [PRIMARY])
         self.open()
         self.assertEqual(await self.read(identifier), [metadata])
-        self.assertEqual(self.damaged, [])  # it is known
+        self.assertEqual(self.damaged, [])  # it is marked already
         self.assertEqual(code_of(await self.shard.put(primary)), client.DONE)
         self.assertEqual(await self.read(identifier), [metadata, primary])
         self.assertTrue(self.shard.settled(identifier))
@@ -95,7 +95,7 @@ class Disk(ShardCase):
         await self.flip(spoil)
 
     async def test_a_registration_in_place_of_a_metadata(self) -> None:
-        """What the judge would answer with the same code is not taken for the part."""
+        """Bytes to which the judge gives the same code as to the part do not count as the part."""
         metadata, primary, _ = await self.put(b"small")
         assert self.store
         entry = client.write_frame(client.RegisterEntry(primary[1:33], 9))
@@ -119,10 +119,10 @@ class Disk(ShardCase):
         self.assertEqual(self.damaged, [primary[1:33]])
         size, fine = await self.shard.check(primary[1:33])
         self.assertFalse(fine)
-        self.assertEqual(len(self.damaged), 1)  # of what is known nothing is said again
+        self.assertEqual(len(self.damaged), 1)  # a marked part is not reported again
         self.close()
         data = bytearray(self.path.read_bytes())
-        data[place + 9] ^= 1  # and it is right again
+        data[place + 9] ^= 1  # and it is sound again
         self.path.write_bytes(data)
         self.open()
         self.assertEqual(await self.shard.check(primary[1:33]), (size, True))
@@ -135,7 +135,7 @@ class Disk(ShardCase):
         folder = named[0].parent
         (folder / "half-written.half").write_bytes(b"x" * 9)
         (folder / "unnamed").write_bytes(b"x")
-        [fresh] = self.store.files.write(bytes(32), bytes(100))  # its name is about to be committed
+        [fresh] = self.store.files.write(bytes(32), bytes(100))  # it has no row yet, and is to get one
         with contextlib.closing(self.store.reader()) as base:
             words = "SELECT 1 FROM contents WHERE file = ?"
             swept = list(self.store.files.strays(lambda it: base.execute(words, (it,)).fetchone() is not None))
@@ -169,7 +169,7 @@ class Disk(ShardCase):
         parts.touch()  # where the folder of files should be
         try:
             Store(self.path)
-        except FileExistsError:  # which has all that was opened, as long as it is told
+        except FileExistsError:  # keeps all that was opened alive while it is handled
             parts.unlink()
             Store(self.path).close()
         self.assertTrue(parts.is_dir())
@@ -223,11 +223,11 @@ class Disk(ShardCase):
         [reply] = await self.shard.put(parts[0])
         self.assertEqual(client.Answer(*struct.unpack(">BII", reply[1:])), client.Answer(shard.FULL, 1, 0))
         self.assertEqual(await self.read(primary[1:33]), [metadata, primary])
-        with self.free(0.3):  # of the reserve, which is all of this disk
+        with self.free(0.3):  # of the disk, all of which is reserve
             self.assertEqual(code_of(await self.shard.put(parts[0], mends=True)), client.DONE)
 
     async def test_of_the_reserve_a_part_is_left_for_what_must_be_noted(self) -> None:
-        """Else who writes many blobs badly fills all disks by their proofs, and no epoch turns any more."""
+        """Otherwise anybody who encodes many blobs badly fills all disks with their proofs, and no epoch can end."""
         parts = await self.parts(b"behind")
         self.shard.reserve, proof = 1.0, bytes([client.PROOF]) + parts[1][1:33] + bytes(9)
         takes = mock.AsyncMock(return_value=([[answer(client.DONE)]], []))

@@ -88,7 +88,7 @@ class Committees(NodeCase):
         later = self.store.begin(1, 0)
         self.store.turn(1)
         self.assertIsNone(self.store.holding(0, 0))
-        before = self.side(0)  # as a start has it whose ledger knows of no turn yet
+        before = self.side(0)  # as after a restart with a ledger that has not heard of the epoch change
         self.assertEqual(before.holding, later)
         said = await before.answer(client.write_frame(client.Read(parts[1][1:33])))
         self.assertEqual(said[:-1], parts[:2])
@@ -145,7 +145,7 @@ class Committees(NodeCase):
         self.assertEqual(code_of(await later.put(refused[0])), shard.FULL)
         node = self.node({0: {0: self.shard}, 1: {0: later}})
         node.port.tell = mock.Mock()
-        with self.free(0.1):  # of the reserve, which is all of this disk: the last of it is for what must be noted
+        with self.free(0.1):  # of the disk, all of which is reserve: its last fifth is for notes
             self.assertEqual(await recovery.settle(node, 1, names), 2)
         self.assertEqual((node.port.tell.call_count, [it.asked for it in self.seats]), (1, [[], [], [], []]))
         with self.free(0.3):
@@ -157,7 +157,7 @@ class Committees(NodeCase):
         name = await self.certified(b"owed")
         self.apply(OPERATOR, "begin", 1, 1, "a,b,c,e")
         self.assertEqual([*self.ledger.must_hold()], [name])
-        node = self.node({0: {0: self.shard}})  # the begin is not on the disk yet
+        node = self.node({0: {0: self.shard}})  # `begin` is not on the disk yet
         await handover.move(node)
         self.assertEqual(node.posted, [])
 

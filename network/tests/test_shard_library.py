@@ -1,4 +1,4 @@
-"""The library that judges in place of the program: a call of it is a run."""
+"""The library that judges instead of the program: each call is like a run of the program."""
 import os
 import pathlib
 import shutil
@@ -7,7 +7,7 @@ import tempfile
 import unittest
 from unittest import mock
 
-import harness  # noqa: F401  # which says where walrus is
+import harness  # noqa: F401  # so that walrus is found
 from walrus.network import judge
 
 STUB = """
@@ -30,14 +30,14 @@ uint64_t walrus_room(const uint8_t *words, size_t words_len, uint64_t input_len)
 @unittest.skipUnless(shutil.which("gcc"), "gcc is not here")
 class Library(unittest.TestCase):
     def test_a_call_of_the_library_is_a_run_of_the_program(self) -> None:
-        """A stub has the library's signature and says what it was told, also where it has too little room at first."""
+        """A stub with the library's signature returns what it was given, even if it has too little room at first."""
         with tempfile.TemporaryDirectory() as folder:
             source, library = pathlib.Path(folder) / "stub.c", pathlib.Path(folder) / "libwalrus.so"
             source.write_text(STUB)
             subprocess.run(["gcc", "-shared", "-fPIC", "-o", library, source], check=True)
             with mock.patch.dict(os.environ):
                 os.environ.pop("WALRUS_LIBRARY", None)
-                program = judge.engine_of(f"{folder}/walrus")  # the library stands beside it
+                program = judge.engine_of(f"{folder}/walrus")  # the library is beside it
             self.assertIsInstance(program, judge.Library)
             for data in (b"", b"input" * 9):
                 for room in (0, 1, 12, 999):

@@ -35,7 +35,7 @@ asyncio.run(main())
 
 class Much(unittest.IsolatedAsyncioTestCase):
     async def test_memory_does_not_grow_with_what_is_held(self) -> None:
-        """A process that goes over ten times more than it may take in memory."""
+        """A process reads what is held; that is ten times more than its memory may grow."""
         with tempfile.TemporaryDirectory() as folder:
             path, count = pathlib.Path(folder) / "a.db", 1_000
             store = Store(path)
@@ -86,7 +86,7 @@ print(most() - before)
 @unittest.skipIf(lacking(), f"{lacking()} is not here (network/install)")
 class Needs(ShardCase):
     async def peak(self, how: str, requests: list[client.Data]) -> int:
-        """The memory that a process of its own takes in which one judge is asked this."""
+        """Return by how much memory a new process grows that runs one judge over these requests."""
         paths = [self.path.with_name(f"{how}-{number}") for number in range(len(requests))]
         for path, request in zip(paths, requests):
             path.write_bytes(request)

@@ -1,4 +1,4 @@
-"""What a node recovers from others for its shard."""
+"""What a node recovers for its shard from others."""
 import asyncio
 import sqlite3
 import types
@@ -21,7 +21,7 @@ class Recovery(NodeCase):
         name, node = await self.lacks(LARGE), self.node({0: {0: self.shard}})
         self.assertEqual(await recovery.settle(node, 0, [name]), 0)
         self.assertTrue(self.shard.settled(name))
-        # of the first one the metadata came; then two openings of each sliver, and the third of one is its own
+        # the first one sent the metadata, two others an opening of each sliver; the third symbol of one is its own
         self.assertEqual([seat.asked for seat in self.seats], [[1], [2], [2], []])
         progress = node.progress
         self.assertEqual((progress.of, progress.blobs, progress.bytes), (1, 1, 5 * 500), progress)
@@ -39,7 +39,7 @@ class Recovery(NodeCase):
             setattr(self.seats[number], how, True)
             async with asyncio.timeout(60):
                 left = await recovery.settle(self.node({0: {0: self.shard}}), 0, [name])
-            self.assertEqual((left, self.shard.lacks(name)), (0, []))  # by two of three, and its own symbol
+            self.assertEqual((left, self.shard.lacks(name)), (0, []))  # from two of three, and its own symbol
             setattr(self.seats[number], how, False)
 
     async def test_a_shard_that_another_node_had_before_counts_itself_in_place_of_that_one(self) -> None:
@@ -56,12 +56,12 @@ class Recovery(NodeCase):
         self.seats[1].fails = False
         self.assertEqual(await recovery.settle(self.node({0: {0: self.shard}}), 0, [name]), 0)
         self.store.mark(self.shard.holding, name, SECONDARY, True)
-        self.enterContext(mock.patch.object(self.shard, "check"))  # by which it would be right after all
+        self.enterContext(mock.patch.object(self.shard, "check"))  # which would find it sound
         self.seats[1].fails = True
         self.assertEqual(await recovery.settle(self.node({0: {0: self.shard}}), 0, [name]), 0)
 
     async def test_who_is_silent_holds_up_nothing_that_the_others_have(self) -> None:
-        """Slivers, and a proof of bad encoding, for which as many are heard as there are."""
+        """Neither slivers nor a proof of bad encoding, for which all that reply are heard."""
         self.enterContext(mock.patch("walrus.shards.LEAST", 2.0))
         self.enterContext(mock.patch("walrus.shards.MOST", 2.0))
         bad = await example_tools.encode_badly(self.walrus)
@@ -70,14 +70,14 @@ class Recovery(NodeCase):
         for poster in "bcd":
             self.apply(poster, "ack", 0, name.hex())
         self.others[name] = bad
-        target = client.Symbol(name, client.SECONDARY, 2)  # a row that is false
+        target = client.Symbol(name, client.SECONDARY, 2)  # a row that is badly encoded
         _, self.proofs[name] = await client.recover([self.seats[1], self.seats[3]], target, self.walrus)
         names = [await self.lacks(LARGE) for _ in range(2 * recovery.LANES)]
         self.seats[1].asked, self.seats[1].silent = [], True
         async with asyncio.timeout(60):
             self.assertEqual(await recovery.settle(self.node({0: {0: self.shard}}), 0, [*names, name]), 0)
         self.assertTrue(self.shard.vouches(ATTEST, name))
-        self.assertLessEqual(len(self.seats[1].asked), recovery.LANES)  # of the first ones
+        self.assertLessEqual(len(self.seats[1].asked), recovery.LANES)  # for the first ones
 
     async def test_certified_blobs_come_first_and_of_these_large_ones(self) -> None:
         names = [await self.lacks(size, certified) for size, certified in ((900, False), (90, True), (900, True))]

@@ -1,4 +1,4 @@
-"""What a scrub of a shard reads, finds and drops."""
+"""What a scrub reads, finds and drops of a shard."""
 import asyncio
 import json
 import time
@@ -28,7 +28,7 @@ class Scrubs(NodeCase):
         async def checking(identifier: bytes) -> tuple[int, bool]:
             nonlocal now
             begun, found = now, await check(identifier)
-            now += 30.0 if len(read) == 1 else 0.5  # in which it is judged; once for long
+            now += 30.0 if len(read) == 1 else 0.5  # seconds for a judgement; one takes long
             read.append((begun, found[0]))
             return found
 
@@ -43,7 +43,7 @@ class Scrubs(NodeCase):
         self.assertGreater(min(size for _, size in read), 90)
         ends = [begun for begun, _ in read[1:]] + [now]
         for (begun, size), end in zip(read, ends):
-            self.assertGreaterEqual(end - begun, max(size, scrub.LEAST) / 1_000 - 1e-6)  # until the next one is read
+            self.assertGreaterEqual(end - begun, max(size, scrub.LEAST) / 1_000 - 1e-6)  # before the next one is read
 
     async def test_a_scrub_that_ended_while_the_clock_was_ahead_keeps_none_from_beginning(self) -> None:
         assert self.store
@@ -62,13 +62,13 @@ class Scrubs(NodeCase):
             task = asyncio.create_task(done.run())
             await asyncio.sleep(0.1)
             self.assertFalse(begun.is_set())
-            self.assertEqual(json.loads(self.store.state("scrub"))["ended"], now)  # for the next start too
+            self.assertEqual(json.loads(self.store.state("scrub"))["ended"], now)  # so that a restart has it too
             now += 1.01 * scrub.DAY
             await asyncio.wait_for(begun.wait(), 30)
             task.cancel()
 
     async def test_a_scrub_drops_what_the_whole_ledger_no_longer_has(self) -> None:
-        """Such as what expired by a checkpoint behind which the node was killed."""
+        """Such as blobs that expired by a checkpoint, if the node was killed after it loaded that."""
         assert self.store
         kept, over = [(await self.put(data))[1][1:33] for data in (b"kept", bytes(LARGE))]
         node = self.node({0: {0: self.shard}})
@@ -83,7 +83,7 @@ class Scrubs(NodeCase):
             self.assertEqual([*map(len, sizes)], held)
 
     async def test_what_is_wrong_stays_so_while_nothing_is_judged_of_it(self) -> None:
-        """Else a node without its ledger, or beside the committee behind a blob's last epoch, would call it held."""
+        """Otherwise a node without its ledger, or in a committee after a blob's last epoch, would report it as held."""
         assert self.store
         name = (await self.put(self.drawn.randbytes(700)))[1][1:33]
         self.store.mark(self.shard.holding, name, PRIMARY, True)
@@ -95,7 +95,7 @@ class Scrubs(NodeCase):
             self.assertEqual((self.store.wrong(self.shard.holding, name), found[1]), (wrong, is_known))
 
     async def test_a_scrub_passes_over_what_a_shard_held_that_is_here_no_more(self) -> None:
-        """A node that gives a large shard away in the midst of a scrub serves others meanwhile."""
+        """A node that loses a large shard in the middle of a scrub serves others meanwhile."""
         assert self.store
         gone, count = self.store.stage("INSERT INTO holdings VALUES (NULL)").lastrowid, 500
         rows = ((gone, self.drawn.randbytes(32), METADATA, 0, None, 0, 274, 1) for _ in range(count))

@@ -1,4 +1,4 @@
-"""A shard's database as a node starts, made by a version before."""
+"""A shard's database that an earlier version made, as a node starts."""
 import sqlite3
 import unittest
 from unittest import mock
@@ -31,7 +31,7 @@ class Older(ShardCase):
         self.path.unlink()
         base = sqlite3.connect(self.path)
         base.executescript(OLD)
-        for epoch in (0, 1):  # in the midst of a handover, in which the shard stays
+        for epoch in (0, 1):  # during a handover, in which the shard stays
             for number, parts in enumerate(blobs):
                 for part, payload in enumerate(parts):
                     frame = 3 * number + part + 1

@@ -1,4 +1,4 @@
-"""What a shard tells and stores while its disk syncs for long, or fails to."""
+"""What a shard reports and stores while its disk takes long to sync, or fails to."""
 import asyncio
 import contextlib
 import io
@@ -12,14 +12,14 @@ import unittest
 from typing import Any
 from unittest import mock
 
-import harness  # noqa: F401  # which says where walrus is
+import harness  # noqa: F401  # so that walrus is found
 from walrus.frames import METADATA, PRIMARY
 from walrus.network.node import Node
 from walrus.network.store import Store
 
 
 class Slow(unittest.IsolatedAsyncioTestCase):
-    """A store over a disk that takes long to sync, or does not."""
+    """A store on a disk whose syncs take long, or fail."""
 
     async def asyncSetUp(self) -> None:
         asyncio.get_running_loop().set_debug(False)
@@ -51,7 +51,7 @@ class Slow(unittest.IsolatedAsyncioTestCase):
         return written
 
     async def begun(self, count: int) -> None:
-        """Waits until so many syncs have begun."""
+        """Wait until `count` syncs have begun."""
         async with asyncio.timeout(60):
             while len(self.syncs) < count:
                 await asyncio.sleep(0.001)
@@ -60,7 +60,7 @@ class Slow(unittest.IsolatedAsyncioTestCase):
         first = self.put(1)
         await self.begun(1)
         self.assertEqual((first.done(), self.store.sizes(1, 0, bytes([1]) * 32)), (False, {METADATA: 8}))
-        self.assertIs(self.store.written(), first)  # of nothing else, such as a part that comes again
+        self.assertIs(self.store.written(), first)  # if nothing new is staged, such as for a part that is sent again
         second, third = self.put(2), self.put(3)
         self.assertTrue(self.store.flush())
         fourth = self.put(4)
@@ -72,7 +72,7 @@ class Slow(unittest.IsolatedAsyncioTestCase):
         await self.begun(2)
         self.assertEqual((second is third, second.done(), fourth.done()), (True, False, False))
         self.goes_on.release()
-        self.assertEqual(await asyncio.gather(second, fourth), [True, True])  # by one sync
+        self.assertEqual(await asyncio.gather(second, fourth), [True, True])  # with one sync
         self.assertEqual((len(self.syncs), self.told), (2, []))
         self.assertTrue(os.path.samestat(os.fstat(self.syncs[0]), os.stat(self.folder / "a.db-wal")))
 
@@ -93,7 +93,7 @@ class Slow(unittest.IsolatedAsyncioTestCase):
         self.assertFalse(await self.put(3))
         self.assertEqual(len(self.syncs), 2)
         self.assertRegex(str(self.told[0]), "the log of .* is not synced: Input/output error; look at the disk before")
-        self.assertTrue(self.store.files.path(file).exists())  # as the disk may still name it
+        self.assertTrue(self.store.files.path(file).exists())  # as the database on the disk may still name it
 
     async def test_a_node_ends_by_a_sync_that_fails(self) -> None:
         node: Any = types.SimpleNamespace(failed=asyncio.get_running_loop().create_future())
@@ -111,7 +111,7 @@ class Slow(unittest.IsolatedAsyncioTestCase):
         later = list["asyncio.Future[bool]"]()
         for number in range(2, 6):
             later.append(self.put(number))
-            await asyncio.sleep(0.01)  # longer than what waits is left
+            await asyncio.sleep(0.01)  # longer than `SOON`
         self.assertNotIn("COMMIT", ran)
         self.goes_on.release()
         await self.begun(2)

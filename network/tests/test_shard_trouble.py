@@ -1,4 +1,4 @@
-"""What a shard does where its disk is full, its memory is short, or what it judges by is lost."""
+"""What a shard does if its disk is full, its memory is short, or what it judges by is lost."""
 import asyncio
 import ctypes
 import os
@@ -51,7 +51,7 @@ class Trouble(ShardCase):
 
     async def test_of_a_blob_that_comes_whole_all_is_stored_or_nothing(self) -> None:
         assert self.store
-        sync, left = os.fsync, [3]  # the folder of both files is not synced
+        sync, left = os.fsync, [3]  # the sync of the folder of both files fails
 
         def full(file: int) -> None:
             left[0] -= 1
@@ -72,7 +72,7 @@ class Trouble(ShardCase):
         self.assertTrue(self.store.flush())
         self.open()
         self.assertEqual(await self.read(whole.identifier), [bytes(it) for it in whole.parts[:2]])
-        self.assertEqual(await self.shard.put_whole(whole), [])  # it is there already
+        self.assertEqual(await self.shard.put_whole(whole), [])  # it is held already
 
     async def test_what_is_written_beside_the_judge_goes_if_the_blob_is_refused(self) -> None:
         assert self.store
@@ -112,7 +112,7 @@ class Trouble(ShardCase):
         request = whole.memory[whole.start :][: whole.end - whole.start]  # noqa: E203
         came = bytes(request)
         self.assertEqual(code_of(await self.shard.put_whole(whole)), 13)
-        self.assertEqual(bytes(request), came)  # its reply waits for the disk by its kind
+        self.assertEqual(bytes(request), came)  # by its kind `Node.reply` waits for the disk
 
     async def test_a_blob_over_which_no_judgement_comes_spoils_no_other(self) -> None:
         assert self.store
@@ -200,7 +200,7 @@ class Trouble(ShardCase):
 
         def judged() -> bytes:
             had = [bytearray(b"x" * 1_000_000) for _ in range(60)]
-            return b"y" * (100_000 + len(had))  # which lies behind it
+            return b"y" * (100_000 + len(had))  # allocated after it
 
         ctypes.CDLL(None).malloc_trim(0)
         before = resident()
@@ -220,7 +220,7 @@ class Trouble(ShardCase):
                 under_way += 1
                 most = max(most, under_way)
             if waits:
-                together.wait(30)  # which so many must come to at once
+                together.wait(30)  # until that many are here at once
             else:
                 time.sleep(0.01)
             with lock:

@@ -69,7 +69,7 @@ class Shared(DiskCase):
         threading.Timer(0.5, reader.close).start()
         with mock.patch.object(Store, "seconds", 0.05):
             self.store = Store(self.folder / "a.db")
-        self.assertIn("its end is waited for", said.getvalue())
+        self.assertIn("waiting until it ends", said.getvalue())
         self.assertEqual(self.store.sizes(1, 0, NAME), {METADATA: 8})
 
 

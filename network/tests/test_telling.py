@@ -1,4 +1,4 @@
-"""What a node tells the ledger of itself: where it is reached, also at an IPv6 address, and where that is refused."""
+"""The address that a node posts to the ledger, such as an IPv6 address, and what it does if that is refused."""
 import asyncio
 import contextlib
 import io
@@ -46,7 +46,7 @@ class Shareless(NetworkCase):
             self.assertTrue(await network.until(lambda it: it.certificate(name) == (0, 4)), self.logs())
             await operator.recorders.post(entry_key(OPERATOR, "share", "node-0", 0))
             before = network.ledger.addresses["node-0"]
-            for node, host in (("node-0", "localhost"), ("node-1", "[::1]")):  # the second one may tell where it is
+            for node, host in (("node-0", "localhost"), ("node-1", "[::1]")):  # node-0 may not post it
                 path, port = self.folder / f"{node}.toml", network.ledger.addresses[node][1]
                 await self.local.end(node)
                 configuration.write(Settings, path, configuration.values_of(path) | {"announced": f"{host}:{port}"})
@@ -58,7 +58,7 @@ class Shareless(NetworkCase):
             self.assertEqual(network.ledger.addresses["node-0"], before)
             for node in ("node-1", "node-2"):
                 await self.local.end(node)
-            await self.reads_all(network)  # of node-0 and node-3
+            await self.reads_all(network)  # from node-0 and node-3
             for node in ("node-1", "node-2"):
                 await self.local.start_node(node)
         await self.check()

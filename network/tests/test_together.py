@@ -15,7 +15,7 @@ UNVERIFIED = "store at shard 2: unverified"
 
 
 class Storing(unittest.IsolatedAsyncioTestCase):
-    """A seat whose exchanges end when they are told to."""
+    """A seat whose exchanges end when the test says so."""
 
     async def asyncSetUp(self) -> None:
         asyncio.get_running_loop().set_debug(False)
@@ -125,7 +125,7 @@ class Storing(unittest.IsolatedAsyncioTestCase):
         await self.turns()
         self.answer(DONE, client.Clash(b"\x31\x01a\x01b"))
         first, clash, last = await asyncio.gather(*tasks)
-        self.assertEqual((first, last), ("", "it has clashed"))
+        self.assertEqual((first, last), ("", "the exchange ended with a clash"))
         self.assertIn("clash", clash)
 
     async def test_larger_ones_go_alone_and_at_once(self) -> None:

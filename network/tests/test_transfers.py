@@ -1,4 +1,4 @@
-"""walrus-net before a gateway that lies, is away, or is slow: what it says is checked."""
+"""walrus-net with a gateway that lies, is away, or is slow: it checks what the gateway says."""
 import asyncio
 import collections
 import os
@@ -55,7 +55,7 @@ class Transfers(TransferCase):
         self.files = {name: blob}
         await self.run_net("fetch", name, "--output", self.out)
         self.assertTrue(self.out.read_bytes() == blob)
-        for lie in (blob[:-1], blob[:5] + b"\0" + blob[6:], listed):  # the last one is what the identifier is of
+        for lie in (blob[:-1], blob[:5] + b"\0" + blob[6:], listed):  # the last one is the blob of this identifier
             self.files = {name: lie}
             await self.run_net("fetch", name, "--output", self.out, status=1)
             self.assertTrue(self.out.read_bytes() == blob)
@@ -127,7 +127,7 @@ class Transfers(TransferCase):
 
     @unittest.skipUnless(LIBRARY, "the library is not built")
     async def test_the_library_names_as_well(self) -> None:
-        """What is fetched and stored has its name where no program is, but the library, as in a wheel."""
+        """Identifiers are computed by the library if there is no program, as in a wheel."""
         program, self.program = self.program, LIBRARY
         blob = DRAWN.randbytes(3_000)
         name = (await self.id(blob)).hex()
@@ -150,7 +150,7 @@ class Transfers(TransferCase):
             self.assertIs(type(transfers.find_walrus()), client.Walrus)
 
     async def test_what_comes_on_standard_input_goes_on_at_once(self) -> None:
-        """A stream is stored as it comes: its end need not be known, and nothing keeps all of it."""
+        """A stream is stored as it arrives: its length need not be known, and nothing keeps all of it."""
         first, rest = DRAWN.randbytes(2 * PIECE), DRAWN.randbytes(999)
         names = b"".join([await self.id(it) for it in (first[:PIECE], first[PIECE:], rest)])
         self.named = (await self.id(MARK + len(first + rest).to_bytes(8, "big") + names)).hex()
@@ -184,7 +184,7 @@ class Transfers(TransferCase):
         store = "store", str(self.out), "--epochs", "1"
         for words in (("fetch", name), ("status",), ("status", "--json"), ("completion",), store):
             inner, outer = os.pipe()
-            os.close(inner)  # nobody reads what comes
+            os.close(inner)  # nobody reads its output
             process = await self.start(*words, out=outer)
             os.close(outer)
             _, error = await process.communicate()

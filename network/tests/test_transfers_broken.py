@@ -9,7 +9,7 @@ from transfer_case import DRAWN, LIE, MARK, PIECE, TransferCase
 
 class Broken(TransferCase):
     async def long_file(self) -> tuple[bytes, str, pathlib.Path]:
-        """A file of several pieces that the gateway has, its identifier, and where what comes of it lies."""
+        """Returns a file of several pieces that the gateway has, its identifier, and the path of its part."""
         pieces = [DRAWN.randbytes(PIECE), DRAWN.randbytes(PIECE), DRAWN.randbytes(999)]
         blob, names = b"".join(pieces), b"".join([await self.id(piece) for piece in pieces])
         name = (await self.id(MARK + len(blob).to_bytes(8, "big") + names)).hex()
@@ -32,7 +32,7 @@ class Broken(TransferCase):
         self.assertTrue(PIECE <= size < len(blob) and part.read_bytes() == blob[:size])
         short = DRAWN.randbytes(99)
         self.files |= {(await self.id(short)).hex(): short, name.upper(): blob}
-        await self.run_net("fetch", (await self.id(short)).hex(), "--output", self.out)  # which is another version
+        await self.run_net("fetch", (await self.id(short)).hex(), "--output", self.out)  # another version
         self.assertEqual((self.out.read_bytes(), self.left()), (short, ["out", part.name]))
         await self.run_net("fetch", name.upper(), "--output", self.out)
         self.assertEqual((self.out.read_bytes() == blob, self.left()), (True, ["out"]))
@@ -54,7 +54,7 @@ class Broken(TransferCase):
         at = PIECE // 2
         for before, starts in (
             (blob[:at] + LIE + blob[at + 3 : PIECE], [PIECE, 0]),  # noqa: E203
-            (blob, [len(blob)]),  # it ended before that took its place
+            (blob, [len(blob)]),  # it ended before the file was renamed
             (blob + b"more", [len(blob) + 4, 0]),
             (b"", [0]),
         ):

@@ -1,4 +1,4 @@
-"""What the tests of walrus-net share: a gateway of their own, which gives and names whatever it is told to."""
+"""What the tests of walrus-net share: a gateway of their own, which returns what each test wants, true or false."""
 import asyncio
 import contextlib
 import os
@@ -25,16 +25,16 @@ def tell():
     told = re.search(r"VmHWM:\\s+(\\d+) kB", pathlib.Path("/proc/self/status").read_text())
     pathlib.Path(os.environ["PEAK"]).write_text(told[1])
 atexit.register(tell)
-"""  # which Python runs before a command, so that it tells its largest resident memory at its end
+"""  # Python runs this before a command, which so reports its peak resident memory when it ends
 
 
 @unittest.skipUnless(os.access(find_program(), os.X_OK), f"the program {find_program()} is not here")
 class TransferCase(unittest.IsolatedAsyncioTestCase):
-    """A gateway that gives `files` by name and calls what is stored `named`."""
+    """A gateway that returns `files` by name, and gives what is stored the name `named`."""
 
     async def asyncSetUp(self) -> None:
         asyncio.get_running_loop().set_debug(False)
-        signal.signal(signal.SIGINT, signal.default_int_handler)  # what a shell starts behind & ignores interrupts
+        signal.signal(signal.SIGINT, signal.default_int_handler)  # what a shell starts with & ignores interrupts
         made = tempfile.TemporaryDirectory(prefix="walrus-transfers-")
         self.addCleanup(made.cleanup)
         self.folder, self.walrus = pathlib.Path(made.name), client.Walrus(find_program())
@@ -43,7 +43,7 @@ class TransferCase(unittest.IsolatedAsyncioTestCase):
         self.program, self.came, self.said = find_program(), 0, ""  # bytes of what is being stored; what it says of it
         self.starts, self.gone, self.whole = list[int](), False, False  # where each answer began; whether the gateway
         # goes in its midst, or hears no ranges
-        self.missing = 404  # what is said of a name that no file has
+        self.missing = 404  # the status for a name that no file has
         app = web.Application(client_max_size=2**30)
         app.add_routes([web.get("/v1/status", self.status), web.get("/v1/blobs/{name}", self.give)])
         app.add_routes([web.put("/v1/blobs", self.take), web.post("/v1/bundles", self.take)])
@@ -81,11 +81,11 @@ class TransferCase(unittest.IsolatedAsyncioTestCase):
         await response.write(data[: len(data) // 2])
         if self.gone:
             assert request.transport and self.site._server
-            self.site._server.close()  # nobody listens there any more
+            self.site._server.close()  # nothing listens there any more
             request.transport.close()
         while self.stalls:
             await asyncio.sleep(0.1)
-        with contextlib.suppress(ConnectionError):  # who was interrupted has gone
+        with contextlib.suppress(ConnectionError):  # the client that was interrupted has gone
             await response.write(data[len(data) // 2 :])  # noqa: E203
         return response
 
@@ -116,7 +116,7 @@ class TransferCase(unittest.IsolatedAsyncioTestCase):
         return await asyncio.create_subprocess_exec(*line, env=environment, **pipes)
 
     async def run_net(self, *words: Union[str, pathlib.Path], data: bytes = b"", status: int = 0) -> tuple[bytes, str]:
-        """What walrus-net writes and says, with this exit status; where it fails, in one line."""
+        """Returns what walrus-net writes and prints; checks its exit status, and that a failure is one line."""
         process = await self.start(*words)
         out, error = await process.communicate(data)
         self.assertEqual(process.returncode, status, error.decode())
@@ -124,7 +124,7 @@ class TransferCase(unittest.IsolatedAsyncioTestCase):
         return out, error.decode()
 
     async def peak_of(self, *words: Union[str, pathlib.Path]) -> int:
-        """The most bytes of resident memory that walrus-net has while it does this."""
+        """Returns the peak resident memory of walrus-net, in bytes, while it does this."""
         (self.folder / "sitecustomize.py").write_text(TOLD)
         told = self.folder / "peak"
         environment = {"PYTHONPATH": str(self.folder), "PEAK": str(told), "XDG_STATE_HOME": str(self.folder)}

@@ -1,4 +1,4 @@
-"""What the tests of uploads that go on share: a gateway whose pieces are short, over a store in memory."""
+"""What the tests of resumable uploads share: a gateway whose pieces are short, over a store in memory."""
 import asyncio
 import hashlib
 import os
@@ -13,12 +13,12 @@ from walrus.network import chunks, shares, unfinished
 from walrus.network.blobs import Blob, Blobs
 from walrus.network.chunks import MARK
 
-SIZE = 1_000  # of a piece
+SIZE = 1_000  # bytes of a piece
 PATCH = {"Content-Type": "application/partial-upload"}
 
 
 class UploadCase(GuardCase):
-    """A gateway with pieces of 1,000 bytes, or `size`. `blobs` is what was stored, and `away` says why nothing is."""
+    """A gateway with pieces of 1,000 bytes, or `size`. `blobs` has what was stored; `away` is why storing fails."""
 
     size = SIZE
 
@@ -49,7 +49,7 @@ class UploadCase(GuardCase):
         return name, was_there
 
     def name_of(self, data: bytes) -> str:
-        """The identifier of a file of several pieces, by the definition in HTTP.md."""
+        """Returns the identifier of a file of several pieces, by the definition in HTTP.md."""
         pieces = [data[place:][: self.size] for place in range(0, len(data), self.size)] or [b""]
         names = [hashlib.sha256(piece).digest() for piece in pieces]
         listed = MARK + len(data).to_bytes(8, "big") + b"".join(names)
@@ -75,14 +75,14 @@ class UploadCase(GuardCase):
         return int(found["upload-offset"])
 
     async def comes(self, path: str, size: int) -> None:
-        """Waits until so much of an upload has come to the disk."""
+        """Waits until this much of an upload is on the disk."""
         folder = pathlib.Path(self.folder, "tokens.uploads", path.rpartition("/")[2])
         async with asyncio.timeout(120):
             while unfinished.Upload(folder).offset < size:
                 await asyncio.sleep(0.02)
 
     def age(self, seconds: float, paths: Iterable[str]) -> None:
-        """Has nothing have come to uploads for so long."""
+        """Makes uploads look as if they had been idle for this long."""
         for path in paths:
             about = self.folder / "tokens.uploads" / path.rpartition("/")[2] / "about"
             os.utime(about, (time.time() - seconds, time.time() - seconds))

@@ -1,14 +1,14 @@
-"""Walrus in Python: blobs that outlive lost and lying shards, by the library `libwalrus.so` or the program `walrus`.
+"""Walrus in Python: blobs that survive lost and lying shards, by the library `libwalrus.so` or the program `walrus`.
 
     import walrus
     encoded = walrus.encode(blob, faults=1)  # a Buffer: bytes, bytearray, memoryview, mmap
     walrus.read(encoded.identifier, [encoded.metadata, encoded.slivers[0][0], encoded.slivers[2][0]])
 
-Each call is a command of the program (README.md, 'Which command for what'), and gives a view of its result. It raises a
-`Refused` where there is none, with the program's status and words, and a `Code` by which a program tells why. With the
-library a call starts no process, copies no input, and lets go of the interpreter's lock: threads may call at once, as
-`asyncio.to_thread(walrus.read, ..)` does.
-While a call lasts nobody may write into its input. A process with threads that forks may not call in the child.
+Each call runs one command of the program (README.md, 'Which command for what') and returns a view of its result. If
+there is no result, the call raises a `Refused`, which has the program's status and words, and a `Code` that names the
+cause for the caller's code. With the library, a call starts no process, does not copy an input that is one buffer, and
+releases the interpreter's lock: threads may call at the same time, as by `asyncio.to_thread(walrus.read, ..)`.
+During a call nobody may write to its input. If a process with several threads forks, the child must make no calls.
 """
 
 from .calls import (

@@ -1,11 +1,11 @@
 #!/usr/bin/env python3
-"""Asks shards behind ports to show that they hold their slivers of a blob: python3 -m walrus.audit --help
+"""Asks shards behind ports to prove that they hold their slivers of a blob: python3 -m walrus.audit --help
 
     python3 -m walrus.audit [--seconds S] [--walrus PROGRAM] ID BEACON COUNT HOST:PORT..
 
-The addresses are those of all n = 3f+1 shards, in the order of their numbers. BEACON is 32 bytes in hexadecimal digits
-that nobody could know before, and COUNT the draws of each shard. A line tells what `walrus verify` says of each answer.
-The exit status is 0 where all are accepted, and else 1.
+The addresses are those of all n = 3f+1 shards, in the order of their numbers. BEACON is 32 bytes in hexadecimal that
+nobody could know in advance; COUNT is the number of draws for each shard. One line for each shard has the result of
+`walrus verify` for its answer. The exit status is 0 if all answers are accepted, and 1 otherwise.
 """
 import argparse
 import asyncio
@@ -20,19 +20,19 @@ from .envelopes import parts
 from .files import read_address, read_identifier
 from .shards import Asked
 
-LARGEST_INPUT = 134_217_728  # bytes that `walrus verify` takes
-MOST_DRAWS, BATCH = 1_000, 16  # draws of an audit; symbols that are asked for in one deadline
+LARGEST_INPUT = 134_217_728  # the most bytes of input that `walrus verify` accepts
+MOST_DRAWS, BATCH = 1_000, 16  # the most draws of an audit; symbols that are requested within one deadline
 
 
 class Audit(NamedTuple):
-    """What came of asking a shard: whether its answer is accepted, and what is said of it, or what went wrong."""
+    """The result for one shard: whether its answer is accepted, and the words of `walrus verify` or of the failure."""
 
     accepted: bool
     said: str
 
 
 def draw(beacon: bytes, identifier: bytes, shards: int, shard: int, number: int) -> Symbol:
-    """What a draw asks of a shard: the symbol of the sliver that crosses its own one at the drawn place."""
+    """Return the request of one draw: the symbol of the drawn sliver, at its crossing with the shard's own sliver."""
     text = b"\4" + beacon + identifier + shard.to_bytes(2, "big") + number.to_bytes(2, "big")
     drawn = hashlib.sha256(text).digest()
     return Symbol(identifier, 1 - (drawn[0] & 1), int.from_bytes(drawn[3:5], "big") % shards)
@@ -43,13 +43,13 @@ def batches(asked: Sequence[Symbol]) -> Iterator[Sequence[Symbol]]:
 
 
 async def audit(shard: client.Shard, identifier: bytes, beacon: bytes, count: int, walrus: client.Walrus) -> Audit:
-    """Draws so many places of a shard's two slivers, asks it for each symbol that it has not shown yet, and verifies.
+    """Draw `count` places in a shard's two slivers, request the symbol at each once, and verify the answers.
 
-    Raises `ValueError` where the beacon has not 32 bytes, or there are more draws than there may be."""
+    Raises `ValueError` unless the beacon has 32 bytes and `count` is from 1 to `MOST_DRAWS`."""
     if len(beacon) != 32 or not 1 <= count <= MOST_DRAWS:
         raise ValueError(f"a beacon has 32 bytes, and there are 1 to {MOST_DRAWS:,} draws")
     drawn = [draw(beacon, identifier, shard.shape.shards, shard.number, number) for number in range(count)]
-    metadata, openings = dict[bytes, None](), dict[Symbol, bytes]()  # each once; an opening by what was asked
+    metadata, openings = dict[bytes, None](), dict[Symbol, bytes]()  # distinct metadata; openings by their request
     for some in batches(list(dict.fromkeys(drawn))):
         try:
             replies = await shard.ask(*Asked.each([client.write_frame(symbol) for symbol in some]))
@@ -70,8 +70,8 @@ async def audit(shard: client.Shard, identifier: bytes, beacon: bytes, count: in
 
 def read_words(words: Sequence[str] | None = None) -> argparse.Namespace:
     parser = argparse.ArgumentParser(description=__doc__, formatter_class=argparse.RawDescriptionHelpFormatter)
-    parser.add_argument("--seconds", type=float, default=client.SECONDS, help=f"for the replies to {BATCH} symbols")
-    parser.add_argument("--walrus", default="", help="the program, else the variable WALRUS or that on the path")
+    parser.add_argument("--seconds", type=float, default=client.SECONDS, help=f"deadline for {BATCH} symbols")
+    parser.add_argument("--walrus", default="", help="program or library; default: WALRUS, or found")
     parser.add_argument("identifier", metavar="ID", type=read_identifier)
     parser.add_argument("beacon", metavar="BEACON", type=read_identifier)
     parser.add_argument("count", metavar="COUNT", type=int)
@@ -79,12 +79,12 @@ def read_words(words: Sequence[str] | None = None) -> argparse.Namespace:
     given = parser.parse_args(words)
     given.faults, rest = divmod(len(given.addresses) - 1, 3)
     if rest or not 1 <= given.faults <= MOST_FAULTS:
-        parser.error(f"{len(given.addresses)} addresses, and there are 3f+1 shards: 4, 7, 10 and so on")
+        parser.error(f"{len(given.addresses)} addresses; give those of all 3f+1 shards: 4, 7, 10 and so on")
     return given
 
 
 async def run(given: argparse.Namespace) -> bool:
-    """Asks all shards side by side, and prints a line for each; whether all are accepted."""
+    """Audit all shards at the same time and print a line for each; return whether all answers are accepted."""
     walrus, addresses = library.find(given.walrus), enumerate(given.addresses)
     shards = [client.SocketShard(number, given.faults, place, given.seconds) for number, place in addresses]
     try:

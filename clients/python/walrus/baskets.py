@@ -1,4 +1,4 @@
-"""Memory into which large payloads come that are wanted together: no more of it than for those that are wanted."""
+"""Memory for large payloads of several replies that are needed together, and for no more of them than are needed."""
 
 import mmap
 import time
@@ -9,41 +9,41 @@ from . import wire
 from .envelopes import HEAD, MARK
 from .wire import Data
 
-FRONT = 131_072  # bytes before large payloads, in which the longest metadata has room
-PART = 262_144  # bytes of a payload that are read at once
-PATIENCE = 1.0  # seconds in which a payload is to come; then one that comes beside those that are wanted has its place
-PAST = memoryview(bytearray(65_536))  # where bytes come that nobody wants
-PASSED = memoryview(b"")  # stands for a payload that was read past
-OFFERED = memoryview(b"")  # and for one as long as a proof
+FRONT = 131_072  # bytes reserved before the large payloads, enough for the longest metadata
+PART = 262_144  # the most bytes of a payload that are read at once
+PATIENCE = 1.0  # seconds for a payload to arrive; after them a surplus one may take its place
+PAST = memoryview(bytearray(65_536))  # scratch memory for bytes that are discarded
+PASSED = memoryview(b"")  # returned for a payload that was discarded (compared by identity)
+OFFERED = memoryview(b"")  # returned for a discarded payload that is as long as a proof
 
 
 class Place:
-    """Where a payload comes by a wire: its memory, as long as it is wanted, and how many bytes came."""
+    """The place of one payload that arrives on a wire: its memory, while it is needed, and how many bytes arrived."""
 
     def __init__(self, wire: wire.Wire, memory: Optional[memoryview] = None) -> None:
         self.wire, self.memory, self.came, self.since = wire, memory, 0, time.monotonic()
 
 
 class Basket:
-    """Memory into which large payloads come at once, each in an envelope and one behind the other, so that all of them
-    are one stream without a copy. In front of it is room for small ones. One that comes beside those that are wanted
-    has the place of one that is slow, or else it is read past, as is what is not wanted any more: so what comes behind
-    it is in step, and its shard keeps nothing of it. `size` is what each has: one of another length is read past too.
-    One that is as long as a proof, which anybody may send, is offered so: who wants it asks for it alone."""
+    """One memory into which several shards' large payloads are read at the same time. Each is in an envelope, one after
+    the other, so together they are one stream without a copy; in front is room for small payloads. All payloads have
+    the length `size`. A surplus payload takes the place of a slow one. If none is slow, it is discarded: read to its
+    end, so that the connection stays in step, but not kept. So are payloads that are no longer needed or have another
+    length. One as long as a proof, which any shard may send, is reported as `OFFERED`: it must be requested alone."""
 
     def __init__(self, count: int, most: int = 0, size: int = 0) -> None:
         self.count, self.most, self.size = count, max(count, most), size  # places now and at most, and bytes of each
-        self.proofs: tuple[int, ...] = ()  # their bytes
+        self.proofs: tuple[int, ...] = ()  # the lengths that a proof may have, in bytes
         self.memory, self.places = memoryview(b""), list[Place]()
         self.is_read, self.is_closed = False, False
 
     def takes(self, size: int) -> bool:
-        """Whether a payload of so many bytes comes here, or is read past."""
+        """Whether this object receives a payload of `size` bytes (to keep or discard it), instead of the caller."""
         return size >= wire.LARGE
 
     async def receive(self, stream: wire.Wire, size: int) -> Data:
-        """A payload that comes here; `PASSED` where it has no place, `OFFERED` where it is as long as a proof, and
-        nothing where it is not what is wanted."""
+        """Read a payload of `size` bytes from a wire and return it, read-only. A discarded one gives `PASSED` if it
+        lacked a place, `OFFERED` if it is as long as a proof, and otherwise an empty `bytes`."""
         place = self.place(stream, size)
         try:
             while place.came < size:
@@ -57,14 +57,14 @@ class Basket:
         return self.instead(size) if place.memory is None else place.memory.toreadonly()
 
     def instead(self, size: int) -> Data:
-        """What stands for a payload of so many bytes that was read past."""
+        """Return what `receive` returns in place of a discarded payload of `size` bytes."""
         return PASSED if self.is_closed or size == self.size else OFFERED if size in self.proofs else b""
 
     def place(self, stream: wire.Wire, size: int) -> Place:
-        """A place for a payload; one without memory, where there is none for it."""
+        """Return a place for a payload; if there is none for it, one without memory, so that it is discarded."""
         if self.is_closed or size != self.size:
             return Place(stream)
-        if not self.memory:  # what is not written of it takes no memory
+        if not self.memory:  # pages of it that are never written take no memory
             self.memory = wire.filling(wire.memory(FRONT + self.most * (HEAD.size + size)))
         number = self.vacant()
         if number >= self.count and not self.give_way():
@@ -77,11 +77,12 @@ class Basket:
         return place
 
     def vacant(self) -> int:
-        """The first place that nobody has."""
+        """Return the number of the first free place."""
         return next((it for it, place in enumerate(self.places) if place.memory is None), len(self.places))
 
     def give_way(self) -> bool:
-        """Has a place for one payload more, where one is slow, or all that came are of no use; whether it has."""
+        """Make a place for one more payload, and return whether that was possible. If payloads are slow, the one with
+        the fewest bytes loses its place. If all arrived a while ago and nobody reads them, a place is added."""
         slow = [place for place in self.places if time.monotonic() - place.since > PATIENCE]
         if coming := [place for place in slow if place.came < self.size]:
             self.empty(min(coming, key=lambda it: it.came))
@@ -92,18 +93,18 @@ class Basket:
         return True
 
     def want(self, count: int) -> None:
-        """Has so many places from here on."""
+        """Allow `count` places from now on, at most `most`; their number never falls."""
         self.count = min(max(count, self.count), self.most)
 
     def empty(self, place: Place) -> None:
-        """Has the memory of a place for others."""
+        """Free the memory of a place for others; the rest of an unfinished payload is discarded."""
         if place.memory is not None and place.came < len(place.memory):
             place.wire.divert()
         place.memory = None
 
     def stream(self, payloads: Sequence[Data]) -> Union[Data, list[Data]]:
-        """Payloads in envelopes, which are read until somebody says otherwise; nothing else is wanted meanwhile. In
-        parts, if some came elsewhere, or something comes here still."""
+        """Return payloads as a stream of envelopes, which counts as being read until the caller resets `is_read`. It is
+        one view if payloads here fill all places and the others fit in front of them, and a list of parts otherwise."""
         parts, count, self.is_read = list[Data](), 0, True
         for it in payloads:
             if isinstance(it, memoryview) and it.obj is self.memory.obj:
@@ -117,7 +118,7 @@ class Basket:
         return self.memory[start:end]
 
     def close(self) -> None:
-        """Gives the memory back, unless it is read still; what still comes is read past."""
+        """Return the memory to the system, unless it is still being read; whatever still arrives is discarded."""
         self.is_closed = True
         for place in self.places:
             self.empty(place)
@@ -126,8 +127,8 @@ class Basket:
 
 
 class Sieve(Basket):
-    """Memory of its own for each large payload that is wanted, which are so many of one length, or else proofs. All
-    others are read past, so that who lies takes no more memory than who gives what is asked for."""
+    """Separate memory for each of `count` large payloads, all of the length `size`, or of the lengths of proofs. All
+    others are discarded, so a lying shard takes no more memory than one that replies what was requested."""
 
     def __init__(self, count: int, is_for_proofs: bool = False) -> None:
         super().__init__(count)
@@ -145,12 +146,12 @@ class Sieve(Basket):
         try:
             return await super().receive(stream, size)
         finally:
-            self.places = [it for it in self.places if it.wire is not stream]  # what came is who asked for it's alone
+            self.places = [it for it in self.places if it.wire is not stream]  # only the caller refers to it now
 
     def empty(self, place: Place) -> None:
         memory = place.memory
         super().empty(place)
-        if memory is not None and isinstance(memory.obj, mmap.mmap):  # which who reads has still
+        if memory is not None and isinstance(memory.obj, mmap.mmap):  # a pending read still refers to it
             memory.obj.madvise(mmap.MADV_DONTNEED)
 
     def instead(self, size: int) -> Data:

@@ -1,4 +1,4 @@
-"""Memory that a library in C reads and writes: the caller's own for the input, and room of ours for the output."""
+"""Memory that a library in C reads and writes: the caller's own for its input, and ours for its output."""
 
 import contextlib
 import ctypes
@@ -7,12 +7,12 @@ from collections.abc import Iterator
 from typing import Union
 
 Buffer = Union[bytes, bytearray, memoryview, mmap.mmap]
-SMALL = 65_536  # bytes; a larger room is mapped, so that what is not written takes no memory
-NOWHERE = ctypes.create_string_buffer(1)  # where a pointer to nothing points, as none may be null
+SMALL = 65_536  # bytes; a larger room is mapped, so that pages that are never written take no memory
+NOWHERE = ctypes.create_string_buffer(1)  # the address of an empty input, as the library accepts no null pointer
 
 
 class View(ctypes.Structure):
-    """What Python's buffer protocol says of an object's memory (`Py_buffer`)."""
+    """Python's description of an object's memory (`Py_buffer` of the buffer protocol)."""
 
     _fields_ = [
         ("address", ctypes.c_void_p),
@@ -38,7 +38,7 @@ give_back.restype = None
 
 @contextlib.contextmanager
 def pinned(data: Buffer) -> Iterator[tuple[int, int]]:
-    """The address and the size of an object's bytes, which stay where they are meanwhile; `BufferError` for gaps."""
+    """Yield the address and size of an object's bytes, which do not move meanwhile. Raises `BufferError` for gaps."""
     view = View()
     take_view(data, ctypes.byref(view), 0)
     try:
@@ -48,20 +48,20 @@ def pinned(data: Buffer) -> Iterator[tuple[int, int]]:
 
 
 def mapped(size: int) -> mmap.mmap:
-    """Memory for so many bytes, which takes none before they are written. It is private, since shared memory costs half
-    as much again to map and clear."""
+    """Return a mapping of `size` bytes, of which a page takes memory only once it is written. It is private: a shared
+    one takes half as long again to map and clear."""
     return mmap.mmap(-1, size, flags=mmap.MAP_PRIVATE | mmap.MAP_ANONYMOUS)
 
 
 def in_large_pages(memory: mmap.mmap) -> mmap.mmap:
-    """Has memory that is to be written come in large pages, where the system has them: a quarter of the time."""
+    """Ask for large pages, if the system has them, for memory that will be written: it takes a quarter of the time."""
     with contextlib.suppress(AttributeError, OSError):
         memory.madvise(mmap.MADV_HUGEPAGE)
     return memory
 
 
 class Room:
-    """Room for so many bytes of output."""
+    """Memory for `size` bytes of output. Raises `MemoryError` if the system has too little."""
 
     def __init__(self, size: int) -> None:
         self.size = size
@@ -69,7 +69,7 @@ class Room:
         try:
             self.memory = bytearray(max(size, 1)) if size <= SMALL else in_large_pages(mapped(size))
         except OSError as error:
-            raise MemoryError(f"{size} bytes of room for the output cannot be had: {error.strerror}") from None
+            raise MemoryError(f"{size} bytes for the output cannot be allocated: {error.strerror}") from None
         self.first = ctypes.c_char.from_buffer(self.memory)
 
     @property
@@ -77,5 +77,5 @@ class Room:
         return ctypes.addressof(self.first)
 
     def front(self, size: int) -> memoryview:
-        """The first bytes, which nobody writes any more."""
+        """Return a read-only view of the first `size` bytes, which are not written any more."""
         return memoryview(self.memory)[:size].toreadonly()

@@ -1,8 +1,8 @@
-"""Small files in bundles: one blob has up to 2f of them, its members, and one is read from the columns that it fills.
+"""Bundles of small files: one blob contains up to 2f files, its members; one is read from the columns that it fills.
 
-A bundle is what `walrus bundle` makes, and is published as any blob. A column is a secondary sliver. The shard that
-holds it gives it a symbol at a time; where that shard is lost or lies, openings of f+1 others give it. `walrus member`
-says which column it wants next, and verifies all that was heard."""
+`walrus bundle` makes a bundle, which is published like any other blob. A column is a secondary sliver. The shard that
+holds it replies its symbols one by one; if that shard is lost or lies, the column is recovered from openings of f+1
+others. `walrus member` reports which column it needs next, and verifies everything that shards replied."""
 import asyncio
 import collections
 import contextlib
@@ -17,11 +17,11 @@ from .envelopes import parts
 from .executable import refusal
 from .shards import Asked
 
-COUNT, ENTRY = struct.Struct(">H"), struct.Struct(">HI")  # of the index: how many; a member's first column and length
+COUNT, ENTRY = struct.Struct(">H"), struct.Struct(">HI")  # of the index: number of members; first column and length
 
 
 def lines_of(size: int, column: int) -> int:
-    """How many columns so many bytes fill."""
+    """Return the number of columns, of `column` bytes each, that `size` bytes fill."""
     return -(-size // column)
 
 
@@ -30,7 +30,7 @@ def index_size(count: int) -> int:
 
 
 def pack(sizes: Sequence[int], faults: int) -> list[range]:
-    """Ranges of files, in order, which are the members of a bundle each. A range of one file needs no bundle."""
+    """Group files of these sizes, in order, into ranges, one for each bundle. A range of one file needs no bundle."""
     rows, most = faults + 1, 2 * faults
     column = rows * (client.LARGEST_BLOB // (rows * (most + 1)) // 2 * 2)
     room = most + 1 - lines_of(index_size(most), column)
@@ -45,25 +45,25 @@ def pack(sizes: Sequence[int], faults: int) -> list[range]:
 
 
 async def join(members: Sequence[bytes], faults: int, walrus: client.Walrus) -> bytes:
-    """The bundle of these members, of which there are at most 2f; raises `Refused` where they do not fit."""
+    """Return the bundle of these members, at most 2f. Raises `Refused` if they do not fit."""
     return await walrus.output("bundle", faults, data=b"".join(map(client.envelope, members)))
 
 
 def read_index(text: bytes) -> list[tuple[int, int]]:
-    """The first column and the length of each member, as far as the index is there."""
+    """Return the first column and the length of each member, for as much of the index as `text` contains."""
     count = COUNT.unpack_from(text)[0] if len(text) >= COUNT.size else 0
     starts = range(COUNT.size, len(text) - ENTRY.size + 1, ENTRY.size)
     return [ENTRY.unpack_from(text, start) for start in starts[:count]]  # type: ignore[misc]
 
 
 def starts_of(lengths: Sequence[int], column: int) -> list[int]:
-    """The first column of each member, and the number of columns that all fill with the index."""
+    """Return the first column of each member, and last the number of columns that the index and all members fill."""
     filled = [lines_of(length, column) for length in lengths]
     return list(itertools.accumulate(filled, initial=lines_of(index_size(len(lengths)), column)))
 
 
 def split(bundle: bytes, faults: int) -> list[bytes]:
-    """The members of a bundle that was read whole; `ValueError` where it is none."""
+    """Return the members of a whole bundle. Raises `ValueError` if the blob is no bundle."""
     rows, count = faults + 1, 2 * faults + 1
     size = 2 * max(1, lines_of(len(bundle), 2 * rows * count))
     starts = [(row * count + column) * size for column in range(count) for row in range(rows)]
@@ -82,13 +82,13 @@ def split(bundle: bytes, faults: int) -> list[bytes]:
 
 
 def read_opening(payload: bytes, levels: int) -> tuple[int, bytes]:
-    """The cross and the symbol of an opening whose path has so many digests."""
+    """Return the cross and the symbol of an opening whose path has `levels` digests."""
     end = len(payload) - 1 - 32 * levels
     return int.from_bytes(payload[36:38], "big"), payload[42:end]
 
 
 class Columns:
-    """What was heard of a bundle's columns; none of it is verified here."""
+    """What shards replied about a bundle's columns; nothing is verified here."""
 
     def __init__(self, shards: client.Shards, identifier: bytes, walrus: client.Walrus) -> None:
         self.shape = client.shape_of(shards)
@@ -97,12 +97,12 @@ class Columns:
         self.said, self.tried, self.recovered = dict[int, str](), set[tuple[int, int]](), set[int]()
 
     def holder(self, column: int) -> int:
-        """The shard that holds a column, by the format of the metadata that most shards told."""
+        """Return the number of the shard that holds a column, by the format of the most frequent metadata."""
         [(told, _)] = self.metadata.most_common(1) or [(b"", 0)]
         return self.shape.shards - 1 - column if told[:1] == bytes([SECOND_METADATA]) else column
 
     def wanted(self, column: int, number: int) -> range:
-        """From a column on those that the index fills, or the member, as far as it is known which these are."""
+        """Return the columns to ask for: `column`, and those behind it up to the known end of the index or member."""
         text = b"".join(itertools.takewhile(bool, (self.slivers.get(place, b"") for place in itertools.count())))
         end, size, entries = 0, len(self.slivers.get(0, b"")), read_index(text)
         if size:
@@ -113,7 +113,7 @@ class Columns:
         return range(column, max(column + 1, min(end, self.shape.symbols[client.PRIMARY])))
 
     async def hear_holder(self, column: int) -> None:
-        """Asks the shard that should hold a column for it, a symbol at a time."""
+        """Ask the shard that should hold a column for all of its symbols; on failure record why in `said`."""
         number = self.holder(column)
         self.tried.add((column, number))
         rows = range(self.shape.symbols[client.SECONDARY])
@@ -121,11 +121,11 @@ class Columns:
         if number not in self.shards:
             return
         shard, requests = self.shards[number], Asked.each(symbols)
-        if shard.late:  # it is asked where the others are not enough
+        if shard.late:  # it is asked only if the others are not enough
             self.said[number] = "it is late"
             return
         try:
-            with contextlib.closing(requests[0].basket):  # where it gives nothing in time, no memory waits for it
+            with contextlib.closing(requests[0].basket):  # if it does not reply in time, no memory is kept for it
                 async with asyncio.timeout(client.patience_for([shard])):
                     replies = await shard.ask(*requests)
         except ConnectionError as error:
@@ -143,8 +143,8 @@ class Columns:
             self.slivers[column] = b"".join(symbol for _, symbol in opened)
 
     async def recover(self, column: int) -> None:
-        """Recovers a column from openings of f+1 others, or of its holder where that was late; raises `Refused` where
-        too few of them hold."""
+        """Recover a column from openings of f+1 other shards; its holder is asked too if it was late. Raises `Refused`
+        if too few openings are valid, or the bundle was badly encoded."""
         self.recovered.add(column)
         others = [it for it in self.shards.values() if it.late or it.number != self.holder(column)]
         target = client.Symbol(self.identifier, client.SECONDARY, column)
@@ -159,7 +159,7 @@ class Columns:
         self.slivers[column] = client.split(text)[0][1][40:]
 
     async def find(self, column: int, number: int) -> bool:
-        """Asks for a column that is wanted, in a way that was not tried; whether there was one."""
+        """Ask for a column in the next way that was not tried yet; return False if none is left."""
         if (column, self.holder(column)) not in self.tried:
             wanted = [it for it in self.wanted(column, number) if (it, self.holder(it)) not in self.tried]
             await asyncio.gather(*map(self.hear_holder, wanted))
@@ -170,7 +170,7 @@ class Columns:
         return True
 
     def stream(self) -> list[client.Data]:
-        """What `walrus member` is given, in parts: metadata and the slivers that the columns are."""
+        """Return the input of `walrus member`, in parts: the metadata, and the columns as secondary slivers."""
         front, told = bytes([SLIVER]) + self.identifier + bytes([client.SECONDARY]), parts(self.metadata)
         for column, data in self.slivers.items():
             head = front + struct.pack(">HI", column, len(data))
@@ -179,9 +179,9 @@ class Columns:
 
 
 async def fetch_member(shards: client.Shards, identifier: bytes, number: int, walrus: client.Walrus) -> bytes:
-    """A member of the bundle of this identifier; raises `Refused` where it cannot be read.
+    """Return a member of the bundle with this identifier. Raises `Refused` if it cannot be read.
 
-    The index and the member are read from the shards that hold their columns, and else from openings of f+1 others."""
+    The columns of the index and the member come from the shards that hold them, or else from openings of f+1 others."""
     columns, column = Columns(shards, identifier, walrus), 0
     while await columns.find(column, number):
         status, text = await walrus.run("member", identifier.hex(), number, data=columns.stream())

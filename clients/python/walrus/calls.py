@@ -1,4 +1,4 @@
-"""The calls: each is a command of the program, with its arguments checked there and its words as exceptions."""
+"""The calls: each runs a command of the program, which checks the arguments; its refusals are raised as exceptions."""
 
 from collections.abc import Iterable
 from dataclasses import dataclass
@@ -16,8 +16,8 @@ LARGEST_BLOB = 16_777_216
 
 @dataclass(frozen=True)
 class Verdict:
-    """What was found of a proof or an answer, true where it is one; `words` are the program's. `code` says what is
-    wrong with it, or that a proof shows what it should."""
+    """The verdict on a proof or an answer, true if it is valid. `words` are the program's; `code` says what is wrong
+    with it, or that a valid proof shows bad encoding."""
 
     holds: bool
     words: str
@@ -28,8 +28,8 @@ class Verdict:
 
 
 class Encoded(NamedTuple):
-    """A blob's identifier, its metadata, the primary and the secondary sliver of each shard, and all envelopes. What
-    is not the identifier is a view of the envelopes, and each part is a whole frame."""
+    """A blob's identifier, its metadata, the primary and secondary sliver of each shard, and the stream of envelopes
+    that contains them. Metadata and slivers are views of that stream, each a whole frame."""
 
     identifier: bytes
     metadata: memoryview
@@ -38,13 +38,13 @@ class Encoded(NamedTuple):
 
 
 def run(*words: object, data: Buffer = b"", room: Optional[int] = None) -> Ran:
-    """Runs any command; `room` is how many bytes it is likely to write, where the library says nothing of it or more
-    than is likely, and a better guess saves a second run."""
+    """Run any command. `room` is the likely number of bytes of output, worth giving if the library reports no bound for
+    the command, or a larger one than is likely; a guess that is large enough saves a second run."""
     return engine().run(list(map(str, words)), data, room)
 
 
 def result(*words: object, data: Buffer = b"", room: Optional[int] = None) -> memoryview:
-    """What a command wrote; raises `Refused` for a status other than 0."""
+    """Return the output of a command. Raises `Refused` for a status other than 0."""
     status, text = run(*words, data=data, room=room)
     if status:
         raise refused(str(words[0]), status, bytes(text), engine().code(status, text))
@@ -52,12 +52,12 @@ def result(*words: object, data: Buffer = b"", room: Optional[int] = None) -> me
 
 
 def identifier(blob: Buffer, faults: int, form: int = 1) -> bytes:
-    """A blob's identifier, of 32 bytes, for f faults and a format of identifiers."""
+    """Return a blob's identifier, 32 bytes, for f = `faults` and the format `form` of identifiers."""
     return bytes.fromhex(str(result("id", faults, "--format", form, data=blob), "ascii"))
 
 
 def encode(blob: Buffer, faults: int, form: int = 1) -> Encoded:
-    """All that shards hold of a blob."""
+    """Return everything that the shards hold of a blob."""
     envelopes = result("encode", faults, "--format", form, data=blob)
     metadata, *slivers = (payload for _, payload in split(envelopes))
     pairs = list(zip(slivers[::2], slivers[1::2]))
@@ -65,25 +65,26 @@ def encode(blob: Buffer, faults: int, form: int = 1) -> Encoded:
 
 
 def given(payloads: Payloads) -> tuple[Buffer, int]:
-    """A stream, and room for what is read from it: a result is made of its bytes, or is shorter than the rest."""
+    """Return payloads as a stream, and room for a result: that consists of the stream's bytes, or is shorter."""
     data = streamed(payloads)
     return data, memoryview(data).nbytes + ROOM
 
 
 def read(identifier: bytes, payloads: Payloads) -> memoryview:
-    """The blob, from its metadata and f+1 true primary slivers among whatever else; raises `Lacking` with fewer."""
+    """Return a blob from its metadata and f+1 valid primary slivers; other payloads do no harm. Raises `Lacking` if
+    there are fewer."""
     return result("read", identifier.hex(), data=streamed(payloads))
 
 
 def recover(identifier: bytes, axis: Axis, index: int, payloads: Payloads) -> memoryview:
-    """A sliver, as a frame, from openings of it; raises `BadlyEncoded` with the proof where they show that."""
+    """Return a sliver, as a frame, from openings of it. Raises `BadlyEncoded` with the proof if they show that."""
     data, room = given(payloads)
     text = result("recover", identifier.hex(), axis, index, data=data, room=room)
     return text[7:]
 
 
 def check(identifier: bytes, payloads: Payloads) -> Verdict:
-    """Whether the first proof among the payloads shows that the blob was badly encoded."""
+    """Judge whether the first proof among the payloads shows that the blob was badly encoded."""
     try:
         result("check", identifier.hex(), data=streamed(payloads))
     except BadlyEncoded as shown:
@@ -96,23 +97,23 @@ def check(identifier: bytes, payloads: Payloads) -> Verdict:
 
 
 def bundle(members: Iterable[Buffer], faults: int) -> memoryview:
-    """One blob of small ones, at most 2f; raises `Lacking` where they do not fit."""
+    """Return one blob that contains small ones, at most 2f. Raises `Lacking` if they do not fit."""
     return result("bundle", faults, data=stream(members))
 
 
 def member(identifier: bytes, number: int, payloads: Payloads) -> memoryview:
-    """A member of a bundle, from secondary slivers or openings of them; `Lacking` names the column that is missing."""
+    """Return a member of a bundle from secondary slivers or openings of them. `Lacking` names the missing column."""
     data, room = given(payloads)
     return result("member", identifier.hex(), number, data=data, room=room)
 
 
 def challenge(identifier: bytes, shard: int, beacon: bytes, count: int, payloads: Payloads) -> memoryview:
-    """The envelopes with which a shard that holds its slivers answers so many draws by a beacon."""
+    """Return the envelopes with which a shard that holds its slivers answers `count` draws by a beacon."""
     return result("challenge", identifier.hex(), shard, beacon.hex(), count, data=streamed(payloads))
 
 
 def verify(identifier: bytes, shard: int, beacon: bytes, count: int, payloads: Payloads) -> Verdict:
-    """Whether openings answer these draws; raises `Lacking` where there are fewer or more of them, or no metadata."""
+    """Judge whether openings answer these draws. Raises `Lacking` if their number is wrong or metadata is missing."""
     try:
         text = result("verify", identifier.hex(), shard, beacon.hex(), count, data=streamed(payloads))
     except BadlyEncoded as fault:  # it is not what was drawn
@@ -123,7 +124,8 @@ def verify(identifier: bytes, shard: int, beacon: bytes, count: int, payloads: P
 def serve(
     faults: int, shard: int, requests: Payloads, pages: Optional[int] = None, blobs: Optional[int] = None
 ) -> memoryview:
-    """The answers of a shard that begins empty, to all requests in turn. A `Refused` has in `text` those before it."""
+    """Return the answers of an initially empty shard to all requests in order. If it refuses one, the `text` of the
+    `Refused` has the answers before it."""
     options = [
         word for name, value in (("--pages", pages), ("--blobs", blobs)) if value is not None for word in (name, value)
     ]

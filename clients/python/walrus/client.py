@@ -1,7 +1,7 @@
 """A client of walrus shards behind ports: it publishes and fetches blobs. Command: python3 -m walrus.client --help
 
-It knows no cryptography: the program `walrus` encodes, names, reads and recovers, and the client carries bytes, whose
-forms docs/FORMATS.md has. It runs on asyncio, without threads. This module has the names of all that a client needs."""
+It does no cryptography: the program `walrus` encodes, names, reads and recovers, and the client transfers bytes in the
+formats of docs/FORMATS.md. It runs on asyncio, without threads. This module exports every name that a client needs."""
 
 import asyncio
 from typing import NamedTuple
@@ -147,7 +147,8 @@ Published = NamedTuple("Published", [("signers", list[int]), ("certified", list[
 
 
 class NoQuorum(Failed):
-    """Fewer than 2f+1 shards acknowledge a blob, or have a ledger that counts so many: `published` tells which do."""
+    """Fewer than 2f+1 shards acknowledge a blob, or fewer ledgers count 2f+1 acknowledgements. `published` has the
+    numbers of those that do."""
 
     def __init__(self, text: str, said: dict[int, str], published: "Published") -> None:
         super().__init__(text, said)
@@ -155,7 +156,7 @@ class NoQuorum(Failed):
 
 
 def steps_to_store(encoded: Encoded, shard: int, until: int) -> list[Step]:
-    """What a writer asks of a shard."""
+    """Return a writer's requests to one shard: register the blob, store its parts, acknowledge it."""
     register, ack = write_frame(RegisterEntry(encoded.identifier, until)), write_frame(Ack(encoded.identifier))
     parts = {"metadata": encoded.metadata, **dict(zip(SLIVERS, encoded.slivers[shard]))}
     stored = [(name, part, (DONE, HELD)) for name, part in parts.items()]
@@ -163,8 +164,8 @@ def steps_to_store(encoded: Encoded, shard: int, until: int) -> list[Step]:
 
 
 async def publish(shards: Shards, encoded: Encoded, until: int) -> Published:
-    """Registers a blob until an epoch and stores it at shards, and enters in each ledger who acknowledges it. Raises
-    `NoQuorum` where fewer than 2f+1 shards acknowledge it, or fewer ledgers count as many."""
+    """Register a blob until an epoch, store it at the shards, and enter their acknowledgements in each shard's ledger.
+    Raises `NoQuorum` if fewer than 2f+1 shards acknowledge the blob, or fewer ledgers count 2f+1 acknowledgements."""
     shape = shape_of(shards)
     if not shape.allows(encoded.metadata) or len(encoded.slivers) != shape.shards:
         raise ValueError(f"the blob is encoded for another f than that of the shards, which is {shape.faults}")
@@ -186,7 +187,7 @@ async def publish(shards: Shards, encoded: Encoded, until: int) -> Published:
 
 
 async def fetch(shards: Shards, identifier: bytes, walrus: Walrus) -> bytes:
-    """The blob of an identifier, from what shards reply; raises `Refused` where it cannot be read."""
+    """Return the blob with this identifier, read from the shards' replies. Raises `Refused` if it cannot be read."""
     status, text = await collect(shards, Read(identifier), walrus, "read", identifier.hex())
     if status:
         raise BadlyEncoded(status, b"reject: the blob was badly encoded", {}, walrus.code(status, text))
@@ -194,13 +195,14 @@ async def fetch(shards: Shards, identifier: bytes, walrus: Walrus) -> bytes:
 
 
 async def recover(shards: Shards, target: Symbol, walrus: Walrus) -> tuple[int, bytes]:
-    """A sliver that others reply the symbols of: status 0 and its frame, or 3 and that of a proof of bad encoding."""
+    """Recover a sliver from the symbols that other shards reply. Returns status 0 and the sliver's frame, or status 3
+    and the frame of a proof of bad encoding."""
     words = "recover", target.identifier.hex(), AXES[target.axis], target.index
     status, text = await collect(shards, target, walrus, *words)
     return status, split(text)[0][1]
 
 
 if __name__ == "__main__":
-    from . import files  # which stands on this module
+    from . import files  # not above, since it imports this module
 
     files.main()

@@ -1,7 +1,7 @@
 """The refusals of the program, each with a code, as clients/c/walrus.h lists them.
 
-The library gives the code of a run. A process gives its status and its text alone, and an older library has no codes:
-their codes are looked up here, in the table that the library has too."""
+The library reports the code of a run. A process gives only its status and text, and an older library has no codes: for
+these the code is looked up here, in the same table that the library contains."""
 
 import enum
 import re
@@ -10,9 +10,9 @@ from .buffers import Buffer
 
 
 class Code(enum.IntEnum):
-    """A refusal: a hundred times its status, and its place there. A number is never given to another one."""
+    """A refusal: a hundred times its status, plus its place among those of the status. No number is ever reused."""
 
-    NONE = 0  # no refusal, or one that only a later version knows
+    NONE = 0  # no refusal, or one that only a later version has
     USAGE = 201
     REJECT = 301
     INCONSISTENT = 302
@@ -54,12 +54,12 @@ class Code(enum.IntEnum):
 
     @classmethod
     def of(cls, status: int, text: Buffer) -> "Code":
-        """The refusal of a run that ended with this status and wrote this text."""
+        """Return the refusal of a run that ended with this status and wrote this text."""
         front = bytes(memoryview(text)[:LONGEST])
         return next((it for it, begins in TABLE.items() if it // 100 == status and front.startswith(begins)), cls.NONE)
 
 
-TABLE = {  # how the text of each begins; the first one of a status that fits counts
+TABLE = {  # the prefix of each refusal's text; of those with one status the first that matches counts
     Code.USAGE: b"usage: ",
     Code.REJECT: b"reject\n",
     Code.INCONSISTENT: b"inconsistent\n",
@@ -97,12 +97,12 @@ TABLE = {  # how the text of each begins; the first one of a status that fits co
 }
 LONGEST = max(map(len, TABLE.values()))
 
-BADLY_ENCODED = {Code.REJECT, Code.INCONSISTENT, Code.PROOF}  # by its writer, which no other reply mends
-TOO_LITTLE = {Code.NO_METADATA, Code.TOO_FEW, Code.MISSING_COLUMN}  # is known of a blob, which further replies may mend
-SHOWS_NOTHING = {Code.PROOF_COUNT, Code.PROOF_REPEATS, Code.BAD_OPENING, Code.CONSISTENT}  # what a proof may do
-DO_NOT_FIT = {Code.TOO_MANY_MEMBERS, Code.BUNDLE_TOO_LONG}  # files, into one bundle
+BADLY_ENCODED = {Code.REJECT, Code.INCONSISTENT, Code.PROOF}  # by its writer: further replies do not help
+TOO_LITTLE = {Code.NO_METADATA, Code.TOO_FEW, Code.MISSING_COLUMN}  # was replied so far: further replies may help
+SHOWS_NOTHING = {Code.PROOF_COUNT, Code.PROOF_REPEATS, Code.BAD_OPENING, Code.CONSISTENT}  # the proof is not valid
+DO_NOT_FIT = {Code.TOO_MANY_MEMBERS, Code.BUNDLE_TOO_LONG}  # the files do not fit into one bundle
 
 
 def numbers_of(text: bytes) -> list[int]:
-    """The numbers of a line, in their order."""
+    """Return the decimal numbers in a line, in order."""
     return [int(digits) for digits in re.findall(rb"[0-9]+", text)]

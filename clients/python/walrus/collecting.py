@@ -1,4 +1,4 @@
-"""Replies of shards to one request: no more are collected than the program `walrus` needs to make something of them."""
+"""Collects shards' replies to one request, and no more of them than the program `walrus` needs for a result."""
 
 import asyncio
 import collections
@@ -17,7 +17,8 @@ from .streams import envelope
 
 
 class Listening:
-    """Shards that are asked as far as they are wanted: further ones where some are late, or say nothing of use."""
+    """Asks shards in random order, those that were late or failed last, and only as many as the caller wants. Further
+    ones are asked if some are late, or reply nothing useful."""
 
     def __init__(self, shards: Shards, request: bytes) -> None:
         self.shards, self.repeats, mixed = shards, 0, random.sample(list(shards), len(shards))
@@ -25,18 +26,18 @@ class Listening:
         self.pending = dict["asyncio.Task[tuple[int, dict[int, bytes], str]]", Shard]()
 
     def ask(self, count: int) -> None:
-        """Asks so many further shards."""
+        """Ask `count` further shards, or those that are left."""
         for shard in self.left[: max(0, count)]:
             self.pending[asyncio.create_task(listen(shard, self.asked()))] = shard
         del self.left[: max(0, count)]
 
     def asked(self) -> bytes:
-        """What the next shard is asked."""
+        """Return the request for the next shard."""
         return self.request
 
     async def next(self, waits: bool = True) -> list[tuple[int, dict[int, bytes], str]]:
-        """What some of them say; nothing where those that were asked are late. The last ones are waited for however
-        late they are, unless told otherwise."""
+        """Wait for some replies and return them: number, useful frames by kind, and words, as `listen` gives them. If
+        the shards asked are late, return none. If no others are left, wait however late they are, if `waits`."""
         patience = None if waits and not self.left else patience_for(self.pending.values())
         done, late = await asyncio.wait(self.pending, timeout=patience, return_when=asyncio.FIRST_COMPLETED)
         for task in () if done else late:
@@ -46,7 +47,7 @@ class Listening:
         return [task.result() for task in done]
 
     def again(self, number: int) -> None:
-        """Has a shard be asked again, behind those that are left; not for ever."""
+        """Put a shard behind those that are left, to be asked again; in all at most twice the number of shards."""
         self.repeats += 1
         if self.repeats <= 2 * len(self.shards):
             self.left += [shard for shard in self.shards if shard.number == number]
@@ -61,7 +62,7 @@ class Listening:
 
 
 class Proving(Listening):
-    """Shards of which each is asked for a proof, in memory of its own: of all else that is long nothing is kept."""
+    """Asks each shard for a proof of bad encoding, with separate memory for it; other long payloads are discarded."""
 
     def __init__(self, shards: Shards, request: bytes) -> None:
         super().__init__(shards, request)
@@ -85,12 +86,12 @@ async def collect(
     *words: object,
     told: Optional["collections.Counter[bytes]"] = None,
 ) -> tuple[int, bytes]:
-    """What the program makes of replies to a request: status 0 or 3, and its text; else `Refused` is raised. No more
-    shards are asked than are needed, and others once one is late or of no use. The program runs once enough was heard,
-    and again once more can be enough. Where all of it is too little, a proof of bad encoding will do: status 3, and the
-    proof in an envelope. Long ones are asked for then, of the next one where one is late or shows nothing, and of f+1
-    shards at once at most: so who lies takes little memory and little time. The metadata that are heard come to `told`.
-    """
+    """Run the program on the replies to a request and return its status, 0 or 3, and its text; otherwise raise
+    `Refused`. Only as many shards are asked as are needed, and others once one is late or useless. The program runs
+    once there are enough replies, and again once further ones may be enough. If all replies are too few, a proof of bad
+    encoding decides: status 3, and the proof in an envelope. Long proofs are requested only then, from at most f+1
+    shards at once, and from the next if one is late or shows nothing: so liars take little memory and little time. The
+    metadata of replies are counted in `told`."""
     needed = shape_of(shards).symbols[getattr(request, "axis", SECONDARY)]
     asked = Asked.of(write_frame(request), needed, len(shards))
     with contextlib.closing(asked.basket):
@@ -108,10 +109,10 @@ async def gather(
     *words: object,
     told: "collections.Counter[bytes]",
 ) -> tuple[int, bytes]:
-    """The same, of a request for which so many replies are needed first."""
+    """Do the work of `collect`; `needed` is the number of replies before the program runs for the first time."""
     count, patience, said, listening = 0, 1, dict[int, str](), Listening(shards, asked)
-    heard, proofs = list[bytes](), dict[bytes, bytes]()  # each once, in order; a proof with its metadata
-    offers = set[int]()  # shards that have a long one
+    heard, proofs = list[bytes](), dict[bytes, bytes]()  # distinct frames in order; the metadata that came with a proof
+    offers = set[int]()  # shards that offered a long proof
     listening.ask(needed)
     try:
         while not listening.is_over():
@@ -139,12 +140,12 @@ async def gather(
                 if not isinstance(lacking, TooFew):
                     raise lacking
                 needed = count + patience * max(1, lacking.needed - lacking.held)
-                patience *= 2  # so liars cause few runs
+                patience *= 2  # so that liars cause few runs of the program
                 asked.basket.want(needed + len(proofs))
             listening.ask(max(needed - count - len(listening.pending) * bool(found), not listening.pending))
     finally:
         await listening.end()
-    asked.basket.close()  # what it had is more than one proof has
+    asked.basket.close()  # frees more memory than a proof takes
     for kept in [{PROOF: proof, METADATA: metadata} for proof, metadata in proofs.items()]:
         if await proves(kept, request.identifier, walrus):
             return 3, envelope(kept[PROOF])
@@ -161,6 +162,6 @@ async def gather(
 
 
 async def proves(kept: dict[int, bytes], identifier: bytes, walrus: Walrus) -> bool:
-    """Whether what was heard of a shard has a proof that the blob was badly encoded."""
+    """Return whether a shard's reply contains a valid proof that the blob was badly encoded."""
     data = parts(kept[kind] for kind in (METADATA, PROOF) if kind in kept)
     return PROOF in kept and walrus.code(*await walrus.run("check", identifier.hex(), data=data)) is Code.INCONSISTENT

@@ -1,4 +1,4 @@
-"""A client that is connected to a port, and the replies to it."""
+"""A client that is connected to a port, and the replies that wait to be sent to it."""
 import asyncio
 import dataclasses
 import time
@@ -8,12 +8,12 @@ from typing import Any, NamedTuple, Optional
 from .fairness import key_of
 from .wire import Data
 
-AHEAD, SMALL = 64, 1_024  # replies that wait; bytes of one that goes with others
+AHEAD, SMALL = 64, 1_024  # the most replies that wait; the most bytes of a reply that is sent together with others
 
 
 class Said(NamedTuple):
-    """A reply in parts; where it rests on what must come to a disk, whether that came there, and the reply where it did
-    not."""
+    """A reply in parts. If it depends on a write to a disk, `written` tells whether that succeeded, and `lost` is the
+    reply if it failed."""
 
     parts: Sequence[Data]
     written: Optional["asyncio.Future[bool]"] = None
@@ -25,22 +25,23 @@ class Said(NamedTuple):
 
     @property
     def is_due(self) -> bool:
-        """Whether it is known which of both it is."""
+        """Whether it is decided which of the two replies is sent."""
         return self.written is None or self.written.done()
 
     @property
     def known(self) -> Sequence[Data]:
-        """The one of both that it is."""
+        """The reply to send, once it is due."""
         return self.parts if self.written is None or self.written.result() else [self.lost]
 
 
 @dataclasses.dataclass(eq=False)
 class Connection:
-    """A client: since when it is at what it does, whether a shard replied, what is kept for it, and replies to send."""
+    """A client: when its present step began, whether a request of it reached a shard, the bytes kept for it, and its
+    replies to send."""
 
     task: "asyncio.Task[None]"
     address: tuple[Any, ...]
-    whom: str = dataclasses.field(init=False)  # from where it is
+    whom: str = dataclasses.field(init=False)  # the address or network under which its turns are counted
     since: float = dataclasses.field(default_factory=time.monotonic)
     had_reply: bool = False
     kept: int = 0

@@ -1,4 +1,4 @@
-"""What does the work: the shared library in this process, or else the program `walrus` in one of its own."""
+"""Engines that run commands: the shared library in this process, or the program `walrus` in a process of its own."""
 
 import contextlib
 import ctypes
@@ -15,37 +15,37 @@ from .codes import Code
 HERE = pathlib.Path(__file__).resolve().parent
 BUILT = pathlib.Path("clients", "c", "out", "libwalrus.so"), pathlib.Path("crates", "walrus_c", "out", "libwalrus.so")
 PROGRAM = pathlib.Path("crates", "walrus", "out", "walrus")
-NO_ROOM, ROOM = 7, 4_096  # the status of a call whose output has too little room; room where no more is known
-MOST_ROOM = 134_217_728  # bytes of room that are had at once where the library says how many are enough
-LARGE = 16_777_216  # bytes; what is likely to be more than this may be more than enough
-UNTOLD = 2**64 - 2  # from here on the library says why it tells no room that is enough
+NO_ROOM, ROOM = 7, 4_096  # the status if the output has too little room; bytes of room if no bound is known
+MOST_ROOM = 134_217_728  # the most bytes allocated at first, if the library reports a bound
+LARGE = 16_777_216  # bytes; a guess above this is compared with the library's bound, which may be smaller
+UNTOLD = 2**64 - 2  # from here on numbers are the library's reasons why it reports no bound
 
 
 class Ran(NamedTuple):
-    """How a run ended: the program's status, and the whole of what it wrote."""
+    """The end of a run: the program's status and its whole output."""
 
     status: int
     text: memoryview
 
 
 class Engine(Protocol):
-    """Runs a command: its words without the program's name, its input, and how many bytes it is likely to write, where
-    that may be fewer than the library says are enough."""
+    """Runs commands. `run` is given the words without the program's name, the input, and the likely number of bytes of
+    output, if that may be smaller than the library's bound."""
 
     def run(self, words: Sequence[str], data: Buffer = b"", room: Optional[int] = None) -> Ran:
         ...
 
     def code(self, status: int, text: Buffer) -> Code:
-        """Which refusal a run told."""
+        """Return the refusal with which a run ended."""
         ...
 
 
 class NotFound(OSError):
-    """There is neither the library nor the program."""
+    """Neither library nor program was found, or the one that was found or named cannot be used."""
 
 
 class Library:
-    """The shared library. A call lets go of the interpreter's lock, and threads may call at once."""
+    """The shared library. A call releases the interpreter's lock, so several threads may call at the same time."""
 
     def __init__(self, path: Union[str, os.PathLike[str]]) -> None:
         self.path = os.fspath(path)
@@ -59,7 +59,7 @@ class Library:
         self.call.restype = ctypes.c_uint8
         self.room.argtypes = [ctypes.c_char_p, size, ctypes.c_uint64]
         self.room.restype = ctypes.c_uint64
-        self.told = getattr(library, "walrus_code", None)  # which an older library lacks
+        self.told = getattr(library, "walrus_code", None)  # an older library lacks it
         if self.told:
             self.told.argtypes, self.told.restype = [ctypes.c_uint8, address, size], ctypes.c_uint32
 
@@ -79,7 +79,7 @@ class Library:
                     return Ran(status, output.front(written.value))
                 if needed.value <= room:
                     raise RuntimeError(
-                        f"{self.path} wants {needed.value} bytes of room, and has {room}: build it again"
+                        f"{self.path} needs {needed.value} bytes of room but refuses {room}: build it again"
                     )
                 room = needed.value
 
@@ -94,7 +94,7 @@ class Library:
 
 
 class Program:
-    """The program, a process for each call."""
+    """The program, as one process for each call."""
 
     def __init__(self, path: Union[str, os.PathLike[str]]) -> None:
         self.path = shutil.which(path) or os.fspath(path)
@@ -118,13 +118,13 @@ class Program:
 def spelled(word: str) -> bytes:
     told = os.fsencode(word)
     if b"\0" in told:
-        raise ValueError(f"a word has no zero byte, as {word[:40]!r} has")
+        raise ValueError(f"a word must have no zero byte, but {word[:40]!r} has one")
     return told
 
 
 def find() -> Engine:
-    """The library: that of the variable WALRUS_LIBRARY, of this package, of its checkout, or of the system. Else the
-    program: that of the variable WALRUS, of the checkout, or on PATH."""
+    """Return the first of these that exists: the library that WALRUS_LIBRARY names, that of this package, of its
+    checkout, or of the system; the program that WALRUS names, that of the checkout, or on PATH. Raises `NotFound`."""
     if path := os.environ.get("WALRUS_LIBRARY"):
         return Library(path)
     top = HERE.parents[2] if len(HERE.parents) > 2 else HERE
@@ -144,13 +144,13 @@ chosen: Optional[Engine] = None
 
 
 def use(engine: Optional[Engine]) -> None:
-    """Has all further calls made by this library or program; None looks for one again."""
+    """Make all further calls with this library or program; with None, look for one again at the next call."""
     global chosen
     chosen = engine
 
 
 def engine() -> Engine:
-    """What makes the calls: what `use` was given, or else what `find` finds at the first call."""
+    """Return the engine that makes the calls: the one given to `use`, or else the one that `find` found first."""
     global chosen
     if chosen is None:
         chosen = find()

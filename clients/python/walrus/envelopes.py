@@ -1,4 +1,4 @@
-"""Envelopes, in which frames and members stand: docs/FORMATS.md has their form."""
+"""Envelopes, which contain frames, or the members of a bundle (docs/FORMATS.md)."""
 
 import struct
 from collections.abc import Iterable, Iterator
@@ -7,11 +7,11 @@ from typing import NamedTuple, Union
 from .buffers import Buffer
 
 HEAD, MARK = struct.Struct(">BHI"), 0x57  # the mark, the sender, the payload's length
-Payloads = Union[Buffer, Iterable[Buffer]]  # envelopes one behind the other, or payloads that stand in none yet
+Payloads = Union[Buffer, Iterable[Buffer]]  # a stream of envelopes, or payloads that are not in envelopes yet
 
 
 def parts(payloads: Iterable[Buffer], sender: int = 0) -> list[Union[bytes, memoryview]]:
-    """Envelopes around payloads, one behind the other: the head of each, and the payload where it lies."""
+    """Return a stream of envelopes with these payloads, in parts: the head of each, and its payload uncopied."""
     found: list[Union[bytes, memoryview]] = []
     for payload in payloads:
         view = memoryview(payload).cast("B")
@@ -20,26 +20,26 @@ def parts(payloads: Iterable[Buffer], sender: int = 0) -> list[Union[bytes, memo
 
 
 def stream(payloads: Iterable[Buffer], sender: int = 0) -> bytes:
-    """Envelopes around payloads, one behind the other."""
+    """Return a stream of envelopes with these payloads."""
     return b"".join(parts(payloads, sender))
 
 
 def streamed(payloads: Payloads) -> Buffer:
-    """Envelopes as they are, and payloads in envelopes."""
+    """Return a stream of envelopes unchanged, and other payloads as such a stream."""
     if isinstance(payloads, Buffer):  # type: ignore[arg-type, misc]
         return payloads  # type: ignore[return-value]
     return stream(payloads)  # type: ignore[arg-type]
 
 
 class Envelope(NamedTuple):
-    """The number of the sender, which nobody vouches for, and the payload: a view of the stream."""
+    """The number of the sender, which is not authenticated, and the payload, a view of the stream."""
 
     sender: int
     payload: memoryview
 
 
 def split(envelopes: Buffer) -> Iterator[Envelope]:
-    """The envelopes of a stream, without a copy; `ValueError` with the first byte that no whole one covers."""
+    """Yield the envelopes of a stream, uncopied. Raises `ValueError` with the first byte outside of a whole one."""
     view, place = memoryview(envelopes).cast("B"), 0
     while place < len(view):
         start = place + HEAD.size

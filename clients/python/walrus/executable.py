@@ -15,13 +15,13 @@ from .shards import Failed
 from .streams import split
 from .wire import Data
 
-LINGERS = 2.0  # seconds in which the output of a run that is given up ends, or is left
+LINGERS = 2.0  # seconds to wait for the output of a killed run to end
 Encoded = NamedTuple("Encoded", [("identifier", bytes), ("metadata", bytes), ("slivers", list[tuple[bytes, bytes]])])
 
 
 class Refused(Failed):
     """The program walrus gave no result: its status, its text, what the shards had said, and the code of the refusal,
-    by which programs tell one from another."""
+    by which callers tell one from another."""
 
     def __init__(self, status: int, text: bytes, said: dict[int, str], code: Code) -> None:
         super().__init__(f"{text.decode('ascii', 'replace').strip() or 'walrus'} (status {status})", said)
@@ -29,11 +29,11 @@ class Refused(Failed):
 
 
 class BadlyEncoded(Refused):
-    """The blob was badly encoded by its writer: no other reply mends that."""
+    """The blob was badly encoded by its writer: no further reply can change that."""
 
 
 class TooFew(Refused):
-    """Too little was heard: `held` verifies of what is `needed`, as far as the program tells that; else both are 0."""
+    """Too little was received: of `needed` parts `held` verified; both are 0 if the program does not report them."""
 
     def __init__(self, status: int, text: bytes, said: dict[int, str], code: Code) -> None:
         super().__init__(status, text, said, code)
@@ -41,11 +41,11 @@ class TooFew(Refused):
 
 
 class NoBundle(Refused):
-    """A blob that was heard is no bundle."""
+    """The blob that was read is no bundle."""
 
 
 class NoMember(Refused):
-    """A bundle has `count` members, and none of the number that was asked for."""
+    """The bundle has `count` members, and none with the number that was asked for."""
 
     def __init__(self, status: int, text: bytes, said: dict[int, str], code: Code) -> None:
         super().__init__(status, text, said, code)
@@ -53,7 +53,7 @@ class NoMember(Refused):
 
 
 def refusal(status: int, text: Data, said: dict[int, str], code: Code) -> Refused:
-    """What is raised for a run that was refused: its code tells of which kind it is."""
+    """Returns the exception for a run that was refused; its class follows from the code."""
     kind = Refused
     if code in BADLY_ENCODED:
         kind = BadlyEncoded
@@ -73,7 +73,8 @@ class Walrus(NamedTuple):
 
     @classmethod
     def find(cls, path: str = "") -> "Walrus":
-        """The program at a path, or that of the variable WALRUS, or on PATH; what a script ./walrus builds is taken."""
+        """Returns the program at a path, in the variable WALRUS, or on PATH; for a script ./walrus, what it has built.
+        Raises `ValueError` if that is not the program."""
         path = path or os.environ.get("WALRUS") or "walrus"
         path = shutil.which(path) or path
         try:
@@ -86,7 +87,7 @@ class Walrus(NamedTuple):
         return cls(str(built) if built.exists() else path)
 
     async def run(self, *words: object, data: Union[Data, Sequence[Data]] = b"") -> tuple[int, bytes]:
-        """The status and the output. What it is given may come in parts."""
+        """Runs the program, and returns its status and output. Its input may be a list of parts."""
         data = b"".join(data) if isinstance(data, list) else data
         process = await asyncio.create_subprocess_exec(self.path, *map(str, words), stdin=PIPE, stdout=PIPE)
         try:
@@ -94,8 +95,8 @@ class Walrus(NamedTuple):
         finally:
             if process.returncode is None and process.stdin:  # nobody waits for its result any more
                 process.kill()
-                ends = process.communicate(), process.stdin.wait_closed()  # which asyncio would miss on standard error
-                with contextlib.suppress(TimeoutError):  # a process that it started has its output still
+                ends = process.communicate(), process.stdin.wait_closed()  # else asyncio complains on standard error
+                with contextlib.suppress(TimeoutError):  # a child of it may still hold the output open
                     async with asyncio.timeout(LINGERS):
                         await asyncio.gather(*ends, return_exceptions=True)
         return await process.wait(), text
@@ -107,11 +108,11 @@ class Walrus(NamedTuple):
         return text
 
     def code(self, status: int, text: Data) -> Code:
-        """The code of a run's refusal, by its status and its text."""
+        """Returns the code of a run's refusal, by its status and its text."""
         return Code.of(status, text)
 
     async def encode(self, blob: bytes, faults: int, form: int = 1) -> Encoded:
-        """Encodes a blob in a format; its identifier is what its slivers tell."""
+        """Encodes a blob in a format. The identifier is that in its slivers."""
         stream = await self.output("encode", faults, "--format", form, data=blob)
         metadata, *slivers = [payload for _, payload in split(stream)]
         return Encoded(bytes(slivers[0][1:33]), metadata, list(zip(slivers[::2], slivers[1::2])))

@@ -1,4 +1,5 @@
-"""Places that all who ask have in turn, by whom they are from: so nobody waits behind all that another one asks."""
+"""A fair semaphore: its places go round-robin to the origins of the waiters, such as client addresses. So no waiter has
+to wait behind all waiters of another origin."""
 
 import asyncio
 import collections
@@ -10,7 +11,7 @@ Waiter = TypeVar("Waiter")
 
 
 class Line(collections.OrderedDict[str, "collections.OrderedDict[Waiter, None]"]):
-    """Those who wait. One of each whom they are from comes first, then the second of each."""
+    """A queue of waiters by origin: the first waiter of each origin comes first, then the second of each."""
 
     def add(self, whom: str, waiter: Waiter) -> None:
         self.setdefault(whom, collections.OrderedDict())[waiter] = None
@@ -19,7 +20,7 @@ class Line(collections.OrderedDict[str, "collections.OrderedDict[Waiter, None]"]
         return next(iter(next(iter(self.values()))))
 
     def take(self) -> Waiter:
-        """Who is first, and waits no more; others of the same go behind all."""
+        """Remove the first waiter and return it; the origin's other waiters go behind those of all other origins."""
         whom, waiters = self.popitem(last=False)
         first, _ = waiters.popitem(last=False)
         if waiters:
@@ -27,7 +28,7 @@ class Line(collections.OrderedDict[str, "collections.OrderedDict[Waiter, None]"]
         return first
 
     def drop(self, whom: str, waiter: Waiter) -> None:
-        """Has somebody wait no more, if he waits still."""
+        """Remove a waiter, if it is still in the queue."""
         if waiters := self.get(whom):
             waiters.pop(waiter, None)
             if not waiters:
@@ -35,14 +36,14 @@ class Line(collections.OrderedDict[str, "collections.OrderedDict[Waiter, None]"]
 
 
 class Fair:
-    """So many places, which those who wait have in turn."""
+    """A semaphore of `count` places, which the origins of the waiters get in turn."""
 
     def __init__(self, count: int) -> None:
         self.free, self.waiting = count, Line["asyncio.Future[None]"]()
 
     @contextlib.asynccontextmanager
     async def place(self, whom: str) -> AsyncIterator[None]:
-        """Has a place while it runs."""
+        """Hold a place during the block."""
         await self.acquire(whom)
         try:
             yield
@@ -50,16 +51,16 @@ class Fair:
             self.release()
 
     async def acquire(self, whom: str) -> None:
-        """Has a place, once it is the turn."""
+        """Wait for a turn and take a place; the caller must `release` it."""
         place: "asyncio.Future[None]" = asyncio.get_running_loop().create_future()
         self.waiting.add(whom, place)
         self.serve()
         try:
             await place
         except asyncio.CancelledError:
-            if place.done() and not place.cancelled():  # it had just come
+            if place.done() and not place.cancelled():  # it had just got a place
                 self.release()
-            self.waiting.drop(whom, place)  # or as many would be kept as give up while nobody gives a place back
+            self.waiting.drop(whom, place)  # else the queue would grow with waiters that gave up, until a release
             raise
 
     def release(self) -> None:
@@ -68,7 +69,7 @@ class Fair:
         self.serve()
 
     def serve(self) -> None:
-        """Gives the places that are free to those whose turn it is. Who waits no more costs nobody a turn."""
+        """Give the free places to the waiters whose turn it is. A waiter that gave up costs nobody a turn."""
         while self.free and self.waiting:
             if (place := self.waiting.first()).done():
                 self.waiting.drop(next(iter(self.waiting)), place)
@@ -78,7 +79,7 @@ class Fair:
 
 
 def key_of(address: str) -> str:
-    """What an address is counted under: of IPv6 the network that one customer has."""
+    """Return the origin under which an address is counted: for IPv6 the /64 network, which one customer has."""
     try:
         found = ipaddress.ip_address(address.partition("%")[0])
     except ValueError:

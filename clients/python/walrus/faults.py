@@ -1,4 +1,4 @@
-"""What the calls raise: the words and the status with which a run ended, and what to do about it."""
+"""The exceptions that calls raise: the words and status with which a run ended, and advice what to do about it."""
 
 from .codes import Code
 
@@ -17,12 +17,12 @@ ADVICE = {
 }
 
 
-ENVELOPE = b"\x57"  # how the text begins that is no line: a proof, or what a shard answered before
+ENVELOPE = b"\x57"  # the first byte of a text that is not a line: a proof, or a shard's earlier answers
 
 
 class Refused(Exception):
-    """A call gave no result. `code` says which refusal it is, and `status` is that of the program; `text` is what it
-    wrote, and `words` its line for people."""
+    """A call had no result. `code` says which refusal it is, `status` is the program's exit status, `text` its output,
+    and `words` the line in that output that is meant for people, if there is one."""
 
     def __init__(self, command: str, status: int, text: bytes, code: Code) -> None:
         self.command, self.status, self.text, self.code = command, status, text, code
@@ -40,7 +40,7 @@ class WrongWords(Refused, ValueError):
 
 
 class BadlyEncoded(Refused):
-    """Status 3: the blob was badly encoded, or is no bundle. `proof` is the frame that shows it, of `recover` alone."""
+    """Status 3: the blob was badly encoded, or is no bundle. `proof` is the frame that shows it (`recover` only)."""
 
     @property
     def proof(self) -> bytes:
@@ -48,7 +48,7 @@ class BadlyEncoded(Refused):
 
 
 class Lacking(Refused):
-    """Status 4: something is missing, which `code` names, and `words` for people."""
+    """Status 4: something is missing; `code` and `words` say what."""
 
 
 class OutOfMemory(Refused, MemoryError):
@@ -60,7 +60,7 @@ class Malformed(Refused, ValueError):
 
 
 class Collision(Refused):
-    """Status 10: two texts with one digest were found; `text` has them."""
+    """Status 10: a hash collision, two different texts with the same digest; `text` contains them."""
 
 
 KINDS: dict[int, type[Refused]] = {
@@ -76,5 +76,5 @@ KINDS: dict[int, type[Refused]] = {
 
 
 def refused(command: str, status: int, text: bytes, code: Code) -> Refused:
-    """The exception for a status other than 0."""
+    """Return the exception for a status other than 0."""
     return KINDS.get(status, Refused)(command, status, text, code)

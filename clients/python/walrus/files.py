@@ -1,11 +1,12 @@
-"""Publishes a file or a folder at shards, and fetches it: what python3 -m walrus.client does.
+"""Publishes a file or a folder at shards, or fetches it: the command python3 -m walrus.client.
 
     python3 -m walrus.client publish [--bundle] FILE|FOLDER HOST:PORT..
     python3 -m walrus.client fetch [--folder FOLDER | --file NAME] ID HOST:PORT..
 
-The addresses are those of all n = 3f+1 shards, in the order of their numbers. A file is one blob. Of a folder each file
-is one, and so is a manifest, which has their names and identifiers: its identifier is that of the folder. With --bundle
-up to 2f small files are one blob, and the manifest has its identifier and the file's number in it.
+The addresses are those of all n = 3f+1 shards, in the order of their numbers. Each file is one blob. A folder has one
+more blob, its manifest, which lists the names and identifiers of its files; the manifest's identifier is that of the
+folder. With --bundle, one blob contains up to 2f small files, and the manifest has its identifier and each file's
+number in it.
 """
 import argparse
 import asyncio
@@ -48,24 +49,25 @@ def read_words(words: Sequence[str] | None = None) -> argparse.Namespace:
     parts.add_argument("--file", metavar="NAME", help="the one file of a manifest that goes to standard output")
     for command in (publish, fetch):
         command.add_argument("addresses", metavar="HOST:PORT", nargs="+", type=read_address)
-        command.add_argument("--walrus", default="", help="the program or the library, else that of WALRUS, or found")
+        command.add_argument("--walrus", default="", help="program or library; default: WALRUS, or found")
         command.add_argument("--seconds", type=float, default=client.SECONDS, help="a shard's deadline for a reply")
     given = parser.parse_args(words)
     given.faults, rest = divmod(len(given.addresses) - 1, 3)
     if rest or not 1 <= given.faults <= MOST_FAULTS:
-        parser.error(f"{len(given.addresses)} addresses, and there are 3f+1 shards: 4, 7, 10 and so on")
+        parser.error(f"{len(given.addresses)} addresses; give those of all 3f+1 shards: 4, 7, 10 and so on")
     return given
 
 
 def show(text: str) -> None:
-    """Says on a terminal how far it is, on one line."""
+    """Show progress on one line, if standard error is a terminal."""
     if sys.stderr.isatty():
         shown = "".join(letter if letter.isprintable() else "?" for letter in text)
         print(f"\r\033[K{shown}", end="", file=sys.stderr, flush=True)
 
 
 def list_files(path: pathlib.Path) -> list[pathlib.Path]:
-    """The file, or the files of a folder in the order of their names, without links; `ValueError` where one is none."""
+    """Return the file, or the files of a folder in the order of their names, without symbolic links. Raises
+    `ValueError` if there are none, or one has more than 16 MiB."""
     files = [path] if path.is_file() else sorted(it for it in path.rglob("*") if it.is_file() and not it.is_symlink())
     if not path.exists() or not files:
         raise ValueError(f"{path}: there is no such file, or no file in it")
@@ -76,7 +78,7 @@ def list_files(path: pathlib.Path) -> list[pathlib.Path]:
 
 
 class Place(NamedTuple):
-    """Where a file is: the identifier of its blob, or that of a bundle and its number in that."""
+    """Where a file is: the identifier of its blob, or the identifier of a bundle and the file's number in it."""
 
     identifier: bytes
     member: Optional[int] = None
@@ -95,7 +97,7 @@ def write_manifest(places: dict[str, Place]) -> bytes:
 
 
 def read_manifest(blob: bytes) -> dict[str, Place]:
-    """Where each file is; `ValueError` where it is no manifest, or has a name that leads out of its folder."""
+    """Return where each file is. Raises `ValueError` for no manifest, or a name that leads out of the folder."""
     try:
         places = {name: Place.read(text) for name, text in json.loads(blob)["files"].items()}
     except (ValueError, KeyError, TypeError, AttributeError, RecursionError, argparse.ArgumentTypeError):
@@ -105,12 +107,13 @@ def read_manifest(blob: bytes) -> dict[str, Place]:
         if "\0" in name or not {"", ".", ".."}.isdisjoint(name.split("/")):
             raise ValueError(f"the manifest has a name that is refused: {name!r}")
         if place.member is not None and not 0 <= place.member < 2 * MOST_FAULTS:
-            raise ValueError(f"the manifest has no file of a bundle at {name!r}")
+            raise ValueError(f"the manifest has a number that no file of a bundle has, at {name!r}")
     return places
 
 
 async def publish(given: argparse.Namespace, shards: client.Shards, walrus: client.Walrus) -> bytes:
-    """Publishes a file, or all files of a folder and then their manifest; the identifier of that or of the file."""
+    """Publish a file, or all files of a folder and then their manifest; return the identifier of the file or manifest.
+    Raises `client.NoQuorum` if too few shards acknowledge a blob."""
 
     async def store(blob: bytes) -> bytes:
         encoded = await walrus.encode(blob, given.faults, given.format)
@@ -132,7 +135,7 @@ async def publish(given: argparse.Namespace, shards: client.Shards, walrus: clie
 
 
 async def fetch_file(place: Place, shards: client.Shards, walrus: client.Walrus) -> bytes:
-    """One file, of a bundle no more than the columns that it fills."""
+    """Return one file; of a bundle, only the index and the columns that the file fills are read."""
     if place.member is None:
         return await client.fetch(shards, place.identifier, walrus)
     return await walrus_bundles.fetch_member(shards, place.identifier, place.member, walrus)
@@ -141,7 +144,7 @@ async def fetch_file(place: Place, shards: client.Shards, walrus: client.Walrus)
 async def fetch_folder(
     folder: pathlib.Path, places: dict[str, Place], faults: int, shards: client.Shards, walrus: client.Walrus
 ) -> None:
-    """Fetches the files of a manifest into a new folder, each bundle whole and once where its files are in a row."""
+    """Fetch the files of a manifest into a new folder; a bundle is read whole, and once if its files are in a row."""
     folder.mkdir()
     last, members = b"", list[bytes]()
     for count, (name, place) in enumerate(places.items(), 1):
@@ -160,7 +163,7 @@ async def fetch_folder(
 
 
 async def fetch(given: argparse.Namespace, shards: client.Shards, walrus: client.Walrus) -> bytes:
-    """Fetches a blob or one file of a manifest, which is returned, or the files of a manifest into a new folder."""
+    """Fetch a blob, or one file of a manifest, and return it; or fetch all files of a manifest into a new folder."""
     blob = await client.fetch(shards, given.identifier, walrus)
     if given.folder is None and given.file is None:
         return blob
@@ -174,7 +177,7 @@ async def fetch(given: argparse.Namespace, shards: client.Shards, walrus: client
 
 
 async def run(given: argparse.Namespace) -> bytes:
-    """Does what the words ask for; what goes to standard output."""
+    """Run the command that was given; return what is to be written to standard output."""
     walrus, addresses = walrus_library.find(given.walrus), enumerate(given.addresses)
     shards = [client.SocketShard(number, given.faults, place, given.seconds) for number, place in addresses]
     try:

@@ -1,7 +1,8 @@
-"""Every frame of docs/FORMATS.md, read as a shard reads it: the first fault from the left is told, and where it is.
+"""Reads and writes every frame of docs/FORMATS.md. Reading reports the first fault from the left, as a shard does.
 
-The client writes its requests with it. All else is for a front, which answers what is no request in place of its shard,
-for nodes that keep what a shard stored, and for who makes parts of a blob by hand: examples, and tests that lie."""
+The client writes its requests with this module. Everything else is for fronts, which reject malformed requests in place
+of their shard; for nodes, which keep the parts that a shard stored; and for code that makes parts of a blob by hand:
+examples, and tests whose shards lie."""
 import functools
 from collections.abc import Callable
 from typing import Any, NamedTuple, Optional
@@ -11,7 +12,7 @@ from .envelopes import stream
 from .kinds import LARGEST_BLOB, MALFORMED, MOST_FAULTS, MOST_UNTIL, UNVERIFIED, Answer, Fault
 from .shapes import Shape
 
-Body = NamedTuple("Body", [("cross", int), ("symbol", bytes), ("path", tuple[bytes, ...])])  # what an opening says
+Body = NamedTuple("Body", [("cross", int), ("symbol", bytes), ("path", tuple[bytes, ...])])  # content of an opening
 Pairs = tuple[tuple[bytes, bytes], ...]
 Metadata = NamedTuple("Metadata", [("faults", int), ("length", int), ("roots", Pairs)])
 Sliver = NamedTuple("Sliver", [("identifier", bytes), ("axis", int), ("index", int), ("data", bytes)])
@@ -21,7 +22,7 @@ SecondMetadata = NamedTuple("SecondMetadata", [("version", int), ("faults", int)
 Attest = NamedTuple("Attest", [("identifier", bytes)])
 Forget = NamedTuple("Forget", [("identifier", bytes)])
 AttestEntry = NamedTuple("AttestEntry", [("shard", int), ("identifier", bytes)])
-Texts = NamedTuple("Texts", [("left", bytes), ("right", bytes)])  # what a clash says
+Texts = NamedTuple("Texts", [("left", bytes), ("right", bytes)])  # content of a clash: two texts with one digest
 FRAMES: dict[int, Any] = {
     kinds.METADATA: Metadata,
     kinds.SLIVER: Sliver,
@@ -40,12 +41,12 @@ FRAMES: dict[int, Any] = {
     kinds.ATTEST_ENTRY: AttestEntry,
 }
 KINDS = {form: kind for kind, form in FRAMES.items()}
-Frame = Any  # a value of one of these types
+Frame = Any  # a value of one of the types in FRAMES
 METADATA, PRIMARY, SECONDARY, PROOF = range(4)  # the parts of a blob that a shard holds
 
 
 class Cursor:
-    """Reads bytes from the left."""
+    """Reads bytes from the left. Raises `Fault` at the first that is missing or out of range."""
 
     def __init__(self, data: bytes) -> None:
         self.data, self.place = data, 0
@@ -66,7 +67,7 @@ class Cursor:
 
 
 class Field(NamedTuple):
-    """How a field is read, behind the values before it, and how it is written."""
+    """How a field is read, given the values of the fields before it, and how it is written."""
 
     read: Callable[[Cursor, dict[str, Any]], Any]
     write: Callable[[Any], bytes]
@@ -121,7 +122,7 @@ FIELDS |= dict.fromkeys(("left", "right"), text_field(1, 65))
 
 
 def read_frame(payload: bytes) -> Frame:
-    """The frame that a payload is; raises `Fault` where it is none."""
+    """Return the frame that a payload spells. Raises `Fault` if it is not one whole frame."""
     cursor = Cursor(payload)
     form = FRAMES.get(cursor.take(1)[0])
     if form is None:
@@ -133,7 +134,7 @@ def read_frame(payload: bytes) -> Frame:
 
 
 def write_frame(value: Frame) -> bytes:
-    """The one spelling of a frame; raises `ValueError` or `OverflowError` where a field is out of range."""
+    """Return the only spelling of a frame. Raises `ValueError` or `OverflowError` if a field is out of range."""
     payload = bytes([KINDS[type(value)]]) + write_fields(value)
     if read_frame(payload) != value:
         raise ValueError("a field has another length than it should")
@@ -141,7 +142,7 @@ def write_frame(value: Frame) -> bytes:
 
 
 def refuse(shape: Shape, payload: Optional[bytes]) -> Optional[Answer]:
-    """The answer to a payload that can be no request to a shard of this f, or to one that is too long; else None."""
+    """Return the answer to a payload that cannot be a request to a shard of this f, or is too long; otherwise None."""
     if payload is None or len(payload) > shape.longest:
         return Answer(MALFORMED, 7, 0)
     try:
@@ -156,26 +157,27 @@ def refuse(shape: Shape, payload: Optional[bytes]) -> Optional[Answer]:
 
 @functools.lru_cache(256)
 def answer(code: int, first: int = 0, second: int = 0) -> bytes:
-    """The payload of an answer."""
+    """Return the payload of an answer."""
     return write_frame(Answer(code, first, second))
 
 
 def code_of(reply: list[bytes]) -> int:
-    """The code of the answer at the end of a reply."""
+    """Return the code of the answer that ends a reply."""
     return reply[-1][1]
 
 
 def joined(reply: list[bytes], shard: int) -> bytes:
-    """The envelopes of a reply."""
+    """Return a reply as a stream of envelopes from this shard."""
     return stream(reply, shard)
 
 
 def part_of(payload: bytes) -> int:
-    """Which part a frame of kind 10, 14, 11 or 13 is."""
+    """Return which part of a blob a frame is, whose kind is 0x10, 0x14, 0x11 or 0x13."""
     parts = {kinds.METADATA: METADATA, kinds.SECOND_METADATA: METADATA, kinds.PROOF: PROOF}
     return parts.get(payload[0], PRIMARY + (payload[33:34] == b"\1"))
 
 
 def pages_of(payload: bytes) -> int:
-    """The pages that a shard takes for a part, or one more; the blob's own page is counted with its metadata."""
+    """Return at least the number of pages that a shard takes for a part, and at most one more. The metadata counts one
+    further page, for the blob itself."""
     return len(payload) // 4096 + 1 + (part_of(payload) == METADATA)

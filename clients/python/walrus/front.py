@@ -1,10 +1,10 @@
 """A small front that puts one long-lived shard behind a port of this machine.
 
 One process `walrus serve F SHARD` gets the requests of all connections, one after the other, and each connection gets
-the replies to its own. What can be no request for this F is answered here, and is not forwarded. The port is printed
-once the shard serves. It ends at SIGINT or SIGTERM, and when the process ends: that takes 1,073,741,824 bytes of
-requests in its life, and ends at a clash. What was stored ends with the process. What an operator must know is a line
-on standard error. The exit status is that of the shard, 128 + N for a signal N, and 1 where the front cannot begin.
+the replies to its own. What cannot be a request for this F is answered here, and is not forwarded. The port is printed
+once the shard serves. The front ends at SIGINT or SIGTERM, and when the process ends: it accepts 1,073,741,824 bytes of
+requests in total, and ends at a hash collision. What was stored is lost with the process. Messages for operators are
+lines on standard error. The exit status is that of the shard, 128 + N for a signal N, or 1 if the front cannot begin.
 """
 import argparse
 import asyncio
@@ -20,17 +20,17 @@ from .client import HEAD, MOST_FAULTS, Shape, envelope
 from .port import Bounds, Port, Said
 from .serving import Ended, Process, status_in_words
 
-LIFE = 1_073_741_824  # bytes of requests that a process takes
-MARKS = (50, 80, 95)  # percents of them that an operator is told of
-GRACE = 5.0  # seconds to end
+LIFE = 1_073_741_824  # bytes of requests that a process accepts in total
+MARKS = (50, 80, 95)  # percentages of them at which an operator is warned
+GRACE = 5.0  # seconds for the process to end
 
 
 def be_silent(text: str) -> None:
-    """Where a front in a test or an example says what an operator must know."""
+    """Drops the messages for an operator, for a front in a test or an example."""
 
 
 class Front(Port):
-    """A shard behind a port. `alter` changes each envelope of a reply: the way to let a shard lie."""
+    """A shard behind a port. `alter` changes each envelope of a reply, so that a test can make a shard lie."""
 
     def __init__(self, program: str, faults: int, shard: int, *words: str, bounds: Bounds = Bounds()) -> None:
         super().__init__(self.reply_to, Shape(faults), bounds._replace(idle=bounds.seconds), shard)
@@ -40,7 +40,7 @@ class Front(Port):
         self.say = be_silent
 
     async def open(self, port: int = 0) -> "Front":
-        """Starts the shard, and listens at the port, or at a free one, once it serves; `Ended` where it does not."""
+        """Starts the shard, and once it serves listens at `port`, a free one if it is 0; raises `Ended` if it fails."""
         await self.process.open()
         await self.ask(b"")
         self.port = await self.listen("127.0.0.1", port)
@@ -51,25 +51,25 @@ class Front(Port):
         return Said([self.alter(envelope(payload, self.shard)) for payload in reply])
 
     async def ask(self, request: bytes) -> list[bytes]:
-        """The reply to a request, which waits for its turn."""
+        """Returns the shard's reply to a request, which waits for its turn."""
         async with self.turn:
             self.count(HEAD.size + len(request))
             return (await self.process.ask([request]))[0]
 
     def count(self, size: int) -> None:
-        """Counts bytes that are forwarded, and tells of each mark once."""
+        """Counts bytes that are forwarded, and warns at each mark once."""
         before, self.forwarded = self.forwarded, self.forwarded + size
         for percent in MARKS:
             if before * 100 < percent * LIFE <= self.forwarded * 100:
-                self.say(f"{percent} % of the {LIFE:,} bytes that the shard takes in its life were forwarded")
+                self.say(f"{percent} % of the {LIFE:,} bytes that the shard accepts in total were forwarded")
 
     async def close(self) -> int:
-        """Stops listening, cuts off connections, ends the shard, and returns its status."""
+        """Stops listening, cuts off connections, ends the shard, and returns its exit status."""
         await self.close_port()
         return await self.process.end(GRACE)
 
     def tell_trouble(self, context: dict[str, Any]) -> None:
-        """Says what the loop could not do: to take a connection where there is no descriptor left."""
+        """Reports what the event loop could not do, such as accept a connection when no descriptor is left."""
         error = context.get("exception")
         lacks = isinstance(error, OSError) and error.errno in (errno.EMFILE, errno.ENFILE)
         text = "no more descriptors: new connections wait, raise the limit (ulimit -n)" if lacks else context["message"]
@@ -79,17 +79,17 @@ class Front(Port):
 def read_words(words: Optional[Sequence[str]] = None) -> argparse.Namespace:
     parser = argparse.ArgumentParser(description=__doc__, formatter_class=argparse.RawDescriptionHelpFormatter)
     parser.add_argument("--port", type=int, default=0, help="where to listen on 127.0.0.1; by default a free one")
-    parser.add_argument("--connections", type=int, default=Bounds().connections, help="how many there may be at once")
+    parser.add_argument("--connections", type=int, default=Bounds().connections, help="the most connections at once")
     parser.add_argument(
         "--seconds",
         type=float,
         default=Bounds().seconds,
-        help="in which a request must come whole, and its reply be taken; else the connection is cut off",
+        help="for a request to arrive whole, and for its reply to be read; then the connection is cut off",
     )
     parser.add_argument("program", metavar="PROGRAM", help="the program walrus")
     parser.add_argument("faults", metavar="F", type=int, help="the number of shards that may lie")
     parser.add_argument("shard", metavar="SHARD", type=int, help="the shard's number")
-    parser.add_argument("words", metavar="...", nargs=argparse.REMAINDER, help="what goes on to serve, as --pages N")
+    parser.add_argument("words", metavar="...", nargs=argparse.REMAINDER, help="more arguments for serve, as --pages N")
     given = parser.parse_args(words)
     if not 1 <= given.faults <= MOST_FAULTS or not 0 <= given.port < 65_536 or given.connections < 1:
         parser.error(f"F is 1 to {MOST_FAULTS}, a port is below 65536, and there is at least one connection")
@@ -97,7 +97,7 @@ def read_words(words: Optional[Sequence[str]] = None) -> argparse.Namespace:
 
 
 async def serve(given: argparse.Namespace, say: Callable[[str], None]) -> int:
-    """Runs a front until a signal comes or its shard ends; the exit status."""
+    """Runs a front until a signal comes or its shard ends; returns the exit status."""
     front = Front(
         given.program, given.faults, given.shard, *given.words, bounds=Bounds(given.connections, given.seconds)
     )

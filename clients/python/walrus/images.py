@@ -1,9 +1,9 @@
-"""Turns an image of a shard's holdings into requests that give them to a shard which begins anew.
+"""Turns an image of a shard's holdings into requests that give them to a shard that was restarted empty.
 
     python3 -m walrus.images [--until EPOCH] SHARD < image > requests
 
-An image is what `walrus image` writes, or the front of a disk with a journal. A sliver's record has no index: that
-follows from the shard's number and from the format of the metadata, so a sliver without metadata is passed over."""
+An image is what `walrus image` writes, or the beginning of a disk with a journal. A sliver's record has no index: that
+follows from the shard's number and from the format of the metadata, so a sliver without metadata is skipped."""
 import argparse
 import struct
 import sys
@@ -19,7 +19,7 @@ Holding = dict[int, bytes]  # what is stored of a blob, by part: metadata, prima
 
 
 def change(held: dict[bytes, Holding], kind: int, identifier: bytes, part: int, data: bytes) -> bool:
-    """Makes the change of a record; whether it is one, and lawful."""
+    """Makes the change of a record; returns whether it is well-formed and lawful."""
     size = len(data)
     if kind not in (PUT, DROP_PART, DROP_ALL) or part > (3 if kind != DROP_ALL else 0):
         return False
@@ -38,7 +38,7 @@ def change(held: dict[bytes, Holding], kind: int, identifier: bytes, part: int, 
 
 
 def read_image(image: bytes) -> dict[bytes, Holding]:
-    """What an image comes to; `ValueError` where it is malformed, with the place of the first record that is none."""
+    """Returns what an image holds; raises `ValueError` if it is malformed, with the place of the first bad record."""
     held, place = dict[bytes, Holding](), 0
     while not image or image[place] == 1:
         start = place + HEAD.size
@@ -51,14 +51,14 @@ def read_image(image: bytes) -> dict[bytes, Holding]:
 
 
 def shape_of(metadata: bytes) -> tuple[int, int]:
-    """The format and the number of shards that a stored metadata tells."""
+    """Returns the format and the number of shards that a stored metadata has."""
     form = 2 if metadata[0] == 2 else 1
     end = form + 1
     return form, 3 * int.from_bytes(metadata[:end][-2:], "big") + 1
 
 
 def requests(identifier: bytes, holding: Holding, shard: int, until: int) -> Iterator[bytes]:
-    """A registration, and the frames of all parts that a shard of this number holds of a blob."""
+    """Yields a registration, and the frames of all parts that a shard of this number holds of a blob."""
     metadata: Optional[bytes] = holding.get(0)
     if metadata is None:
         return

@@ -1,35 +1,35 @@
-"""The kinds of frames by their numbers, what requests and answers say, and answers in words."""
+"""The kinds of frames by their numbers, the fields of requests and answers, and answers in words."""
 
 from typing import NamedTuple, Union
 
-METADATA = 0x10  # a part of a blob, which a writer stores and a shard may reply
+METADATA = 0x10  # parts of a blob, which a writer stores and a shard may return
 SLIVER = 0x11
 OPENING = 0x12
 PROOF = 0x13
 SECOND_METADATA = 0x14  # the metadata of format two
-READ = 0x20  # what is asked of a shard
+READ = 0x20  # requests to a shard
 SYMBOL = 0x21
 ACK = 0x22
 ATTEST = 0x23
 FORGET = 0x24
-ANSWER = 0x30  # how a reply ends
+ANSWER = 0x30  # the ends of a reply
 CLASH = 0x31
-REGISTER_ENTRY = 0x40  # what is entered in a ledger
+REGISTER_ENTRY = 0x40  # entries of a ledger
 ACK_ENTRY = 0x41
 ATTEST_ENTRY = 0x42
-KINDS = {METADATA: "metadata", SLIVER: "sliver", OPENING: "opening", PROOF: "proof"}  # what a reply is made of
+KINDS = {METADATA: "metadata", SLIVER: "sliver", OPENING: "opening", PROOF: "proof"}  # the parts of a reply
 
-PRIMARY = 0  # an axis of slivers
+PRIMARY = 0  # the axes of slivers
 SECONDARY = 1
 AXES = ("primary", "secondary")
 SLIVERS = [f"{axis} sliver" for axis in AXES]
 
-DONE = 0  # a code of an answer
+DONE = 0  # codes of answers
 UNVERIFIED = 2
 MALFORMED = 9
 HELD = 11
-COUNTS = (12, 13, 14)  # the codes of a word that counts
-LEDGER_AWAY = 10, 1  # a code, and its first number where a node's ledger is away
+COUNTS = (12, 13, 14)  # the codes for an acknowledgement or attestation that counts
+LEDGER_AWAY = 10, 1  # the code and the first number if a node's ledger is away
 
 LARGEST_BLOB = 16_777_216
 MOST_FAULTS = 333
@@ -44,16 +44,16 @@ Ack = NamedTuple("Ack", [("identifier", bytes)])
 RegisterEntry = NamedTuple("RegisterEntry", [("identifier", bytes), ("until", int)])
 AckEntry = NamedTuple("AckEntry", [("shard", int), ("identifier", bytes)])
 Answer = NamedTuple("Answer", [("code", int), ("first", int), ("second", int)])
-Clash = NamedTuple("Clash", [("payload", bytes)])  # in place of an answer: two texts with one digest
+Clash = NamedTuple("Clash", [("payload", bytes)])  # in place of an answer: a hash collision, two texts with one digest
 
 
 class Fault(ValueError):
-    """What is wrong with bytes, the first thing from the left: its name, and a place where one is known."""
+    """The first fault in bytes, from the left: its name, and its place if that is known."""
 
 
 def in_words(end: Union[Answer, Clash]) -> str:
-    """What the end of a reply says."""
-    code, first, second = end if isinstance(end, Answer) else (4, 0, 0)  # no answer has that code
+    """Returns in words what the end of a reply says."""
+    code, first, second = end if isinstance(end, Answer) else (4, 0, 0)  # 4 stands for a clash: no answer has that code
     if (code, first) == LEDGER_AWAY:
         return "the ledger is away"
     cause = f": {CAUSES[first - 1]}" if code == MALFORMED and 1 <= first <= len(CAUSES) else ""

@@ -16,7 +16,7 @@ library = functools.cache(Library)
 
 
 class InProcess(client.Walrus):
-    """The library at a path, which does what the program does. A call runs in a thread, so that others go on."""
+    """The library at a path, which does what the program does. A call runs in a thread, beside the event loop."""
 
     async def run(self, *words: object, data: Union[client.Data, Sequence[client.Data]] = b"") -> tuple[int, bytes]:
         whole = data if isinstance(data, (bytes, bytearray, memoryview)) else b"".join(data)
@@ -34,8 +34,8 @@ def is_library(path: str) -> bool:
 
 
 def find(path: str = "") -> client.Walrus:
-    """The library or the program at a path, or that of the variable WALRUS; else a library that is found, else the
-    program on PATH."""
+    """Returns the library or the program at a path, or in the variable WALRUS. If neither is given, it returns a
+    library that it finds, or else the program on PATH."""
     path = path or os.environ.get("WALRUS", "")
     if is_library(path):
         library(path)

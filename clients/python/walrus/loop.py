@@ -11,15 +11,15 @@ Result = TypeVar("Result")
 
 
 def wait_without_threads() -> None:
-    """Has asyncio hear of processes that end by descriptors: before Python 3.12 it starts a thread for each."""
+    """Makes asyncio wait for processes with descriptors: before Python 3.12 it starts a thread for each by default."""
     if sys.version_info < (3, 12):
-        with contextlib.suppress(OSError):  # where the system has no such descriptors
+        with contextlib.suppress(OSError):  # if the system has no such descriptors
             os.close(os.pidfd_open(os.getpid()))
             asyncio.set_child_watcher(asyncio.PidfdChildWatcher())
 
 
 def run(main: Coroutine[Any, Any, Result]) -> Result:
-    """What `main` returns. It runs on uvloop if the variable WALRUS_LOOP says so."""
+    """Runs `main`, on uvloop if the variable WALRUS_LOOP says so, and returns its result."""
     if os.environ.get("WALRUS_LOOP") == "uvloop":
         with asyncio.Runner(loop_factory=importlib.import_module("uvloop").new_event_loop) as runner:
             return runner.run(main)

@@ -1,7 +1,8 @@
-"""A port whose clients have their requests answered, each client's in their order, and what one client may cost.
+"""A port that answers the requests of its clients, each client's in order, and limits what one client may cost.
 
-A front and a node stand on it. A request has a deadline from its first byte to its last, and so has taking a reply.
-Where there are more connections than may be, or more is kept, that client is cut off which is at it for longest."""
+Fronts and nodes are built on it. There is a deadline from the first byte of a request to its last, and one for a client
+to accept a reply. If there are too many connections, or too many bytes are kept for clients, the port disconnects the
+client whose present step takes longest."""
 import asyncio
 import collections
 import contextlib
@@ -20,53 +21,55 @@ from .frames import refuse
 from .streams import write_parts
 from .wire import Wire, accept, bound, filling, memory
 
-PIECE, QUIET = 65_536, 60.0  # bytes of one client; seconds between two equal lines
-LARGE_PAGE, HANDSHAKE = 2_097_152, 5.0  # bytes; seconds for TLS
-ASIDE = 256  # requests that wait for others without a turn
-MANY = 4  # who has more than one of so many parts of the connections has many
+PIECE, QUIET = 65_536, 60.0  # bytes up to which a request is small; seconds between two log lines of one kind
+LARGE_PAGE, HANDSHAKE = 2_097_152, 5.0  # bytes; seconds for a TLS handshake
+ASIDE = 256  # the most requests that wait for others without a turn
+MANY = 4  # an address with more than one in MANY of the connections has many
 
 
 class Bounds(NamedTuple):
-    """How many connections there may be, and in how many seconds each request is whole and each reply taken."""
+    """The limits of a port: on connections, on the time to send a request or accept a reply, and on memory."""
 
     connections: int = 64
-    seconds: float = 60.0
+    seconds: float = 60.0  # to send a whole request, to wait for a turn, and to accept a reply
     idle: float = 60.0  # seconds without a request
     kept: int = 268_435_456  # bytes of requests and replies, for all clients together
 
 
 class Port:
-    """Answers requests by `reply`, which takes the shard's number and a request; `own` is the shard, if it is one."""
+    """Answers requests by `reply`, which is given the shard's number and a request. The number is `own`, for a port of
+    one shard, or else the sender's number in the envelope."""
 
     def __init__(
         self, reply: Callable[[int, bytes], Awaitable[Said]], shape: Shape, bounds: Bounds, own: Optional[int] = None
     ) -> None:
         self.reply, self.shape, self.bounds, self.own = reply, shape, bounds, own
-        self.turns = Fair(max(2, bounds.kept // shape.longest))  # so many requests are answered at once
-        self.connections, self.coming = dict[Connection, None](), dict[Connection, None]()  # and those in a handshake
-        self.asking = set[Connection]()  # clients of whom a request is being answered, also those that were cut off
-        self.answers, self.at_turn = set["asyncio.Task[Said]"](), set["asyncio.Task[Any]"]()  # under way; with a turn
+        self.turns = Fair(max(2, bounds.kept // shape.longest))  # limits how many requests are answered at once
+        self.connections, self.coming = dict[Connection, None](), dict[Connection, None]()  # coming: in their handshake
+        self.asking = set[Connection]()  # clients with a request being answered, even if they were disconnected since
+        self.answers, self.at_turn = set["asyncio.Task[Said]"](), set["asyncio.Task[Any]"]()  # all; those with a turn
         self.told: dict[tuple[str, str], float] = {}
-        self.say: Callable[[str], None] = functools.partial(print, file=sys.stderr, flush=True)  # to an operator
+        self.say: Callable[[str], None] = functools.partial(print, file=sys.stderr, flush=True)  # a line for operators
         self.kept, self.changed = 0, asyncio.Event()
-        self.accepting, self.tls = list["asyncio.Task[None]"](), dict[str, Any]()  # who accepts, and over what TLS
+        self.accepting, self.tls = list["asyncio.Task[None]"](), dict[str, Any]()  # one for each socket; TLS options
 
     def tell(self, text: str, kind: str, client: object = "") -> None:
-        """Says a line, and none of the same kind about the same host, or network of one customer, for a minute."""
+        """Log a line, unless one of the same kind about the same address (IPv6: /64 network) was logged within a
+        minute."""
         now, key = time.monotonic(), (kind, client.whom if isinstance(client, Connection) else "")
         if now - self.told.get(key, -QUIET) >= QUIET:
             self.told = {key: when for key, when in self.told.items() if now - when < QUIET} | {key: now}
             self.say(text)
 
     async def listen(self, host: str, port: int, context: Optional[ssl.SSLContext] = None) -> int:
-        """Answers from here on, over TLS if so told; the port."""
+        """Start to listen, over TLS if a context is given; return the port's number."""
         self.tls = {"ssl": context, "ssl_handshake_timeout": HANDSHAKE} if context else {}
         listening = bound(host, port)
         self.accepting = [asyncio.create_task(accept(it, self.connect)) for it in listening]
         return int(listening[0].getsockname()[1])
 
     async def close_port(self) -> None:
-        """Listens no more, and cuts off who is connected."""
+        """Stop listening, disconnect all clients, and cancel the answers under way."""
         for accepting in self.accepting:
             accepting.cancel()
         await asyncio.gather(*self.accepting, return_exceptions=True)
@@ -80,7 +83,7 @@ class Port:
         client.task.cancel()
 
     def let_go(self, client: Connection) -> None:
-        """Has a client no more. What is kept for it counts until the request of it that is answered has its answer."""
+        """Forget a client. If a request of it is being answered, the bytes kept for it count until that is done."""
         self.connections.pop(client, None)
         self.coming.pop(client, None)
         if client not in self.asking:
@@ -92,8 +95,8 @@ class Port:
         self.changed.set()
 
     def keep(self, client: Connection, size: int) -> None:
-        """Keeps so many bytes more for a client, or fewer. Who is cut off for it is nobody whose request is being
-        answered, as that would leave no less."""
+        """Count `size` more bytes as kept for a client, or fewer if it is negative. If that is too much, disconnect
+        others, but none whose request is being answered, since that would free nothing."""
         if client not in self.connections:
             return
         self.hold(client, size)
@@ -102,12 +105,12 @@ class Port:
             if not others:
                 return
             other = min(others, key=lambda it: it.since)
-            self.tell(f"client {other} is cut off: too much is kept, and it is at it for longest", "kept", other)
+            self.tell(f"client {other} is cut off: too much memory is used, by this client for longest", "kept", other)
             self.cut_off(other)
 
     def make_room(self, newcomer: Connection, among: dict[Connection, None]) -> None:
-        """Where there are as many connections as may be, cuts off that which waits longest, first those of who has many
-        of them, and those of no reply."""
+        """Add a connection. If there are too many, disconnect the one that waits longest: preferably one of an address
+        with many connections, and then preferably one that sent no request yet."""
         if len(among) >= self.bounds.connections:
             counts, many = collections.Counter(it.whom for it in among), self.bounds.connections // MANY
             client = min(among, key=lambda it: (counts[it.whom] <= many, it.had_reply, it.since))
@@ -116,26 +119,26 @@ class Port:
         among[newcomer] = None
 
     async def connect(self, connection: socket.socket, address: tuple[Any, ...]) -> None:
-        """Answers the requests of one connection until it ends, or is cut off."""
+        """Answer the requests of one connection until it ends, or is disconnected by the port."""
         task, loop, wire = asyncio.current_task(), asyncio.get_running_loop(), Wire()
         assert task
         client = Connection(task, address)
         self.make_room(client, self.coming)
         try:
-            with contextlib.suppress(asyncio.CancelledError, OSError):  # it is cut off, or there is no TLS with it
+            with contextlib.suppress(asyncio.CancelledError, OSError):  # disconnected, or its TLS handshake failed
                 await loop.connect_accepted_socket(lambda: wire, connection, **self.tls)
                 self.coming.pop(client, None)
                 client.since = time.monotonic()
                 self.make_room(client, self.connections)
-                wire.transport.set_write_buffer_limits(high=1, low=0)  # so that what is written is gone once drained
+                wire.transport.set_write_buffer_limits(high=1, low=0)  # so that `drain` waits until all is sent
                 await self.converse(client, wire)
         finally:
             self.let_go(client)
-            with contextlib.suppress(AttributeError):  # there is no transport yet, or asyncio's is closed already
+            with contextlib.suppress(AttributeError):  # no transport yet, or asyncio's is closed already
                 wire.transport.abort()
 
     async def converse(self, client: Connection, reader: Wire) -> None:
-        """Takes requests and sends replies until there are no more, or what is wrong is told."""
+        """Receive requests and send replies until there are no more; log it if the client breaks a rule or deadline."""
         try:
             async with asyncio.TaskGroup() as group:
                 group.create_task(self.receive(client, reader))
@@ -145,18 +148,18 @@ class Port:
             text = str(error) or f"no whole request, or no reply taken, in {self.bounds.seconds:g} s"
             self.tell(f"client {client} is cut off: {text}", type(error).__name__, client)
         except* (EOFError, OSError):
-            pass  # it went away, or the shard ended, of which the operator is told
+            pass  # the client went away, or the shard ended, which is logged elsewhere
 
     async def receive(self, client: Connection, reader: Wire) -> None:
-        """Takes requests and has them answered, one after the other, until there are no more."""
+        """Receive requests and have them answered, one after the other, until there are no more."""
         while first := await self.begin(reader):
-            await self.receive_one(client, first, reader)  # a client that is idle has nothing of it in memory
+            await self.receive_one(client, first, reader)  # in a call of its own: while idle, no request is in memory
             if client.kept > PIECE:
                 await client.replies.join()  # small replies may wait for each other and the disk
         await client.replies.put(None)
 
     async def receive_one(self, client: Connection, first: bytes, reader: Wire) -> None:
-        """Takes a request that begins so, has it answered, and its reply sent."""
+        """Receive the request that begins with the byte `first`, have it answered, and queue its reply."""
         client.since = time.monotonic()
         async with asyncio.timeout(self.bounds.seconds):
             sender, payload = await self.take(client, first, reader)
@@ -169,19 +172,20 @@ class Port:
         self.at_turn.add(task)
         self.asking.add(client)
         task.add_done_callback(functools.partial(self.answered, client, len(payload or b"")))
-        said = await asyncio.shield(task)  # who is cut off meanwhile does not disturb the shard
+        said = await asyncio.shield(task)  # a client that is disconnected meanwhile does not disturb the shard
         await client.replies.put(said)
 
     async def begin(self, reader: Wire) -> bytes:
-        """The first byte of a request; nothing where none begins."""
+        """Return the first byte of the next request, or an empty `bytes` if none begins within the idle time."""
         try:
             async with asyncio.timeout(self.bounds.idle):
                 return await reader.read(1)
         except TimeoutError:
-            return b""  # it is idle: it is let go, and nobody need know
+            return b""  # the idle connection is closed, which needs no log line
 
     async def take(self, client: Connection, first: bytes, reader: Wire) -> tuple[int, Optional[Data]]:
-        """The sender and the payload of an envelope that begins so; none where it is too long, which is read past."""
+        """Return the sender and payload of the envelope that begins with the byte `first`. A payload that is too long
+        is discarded as it arrives, and None is returned in its place."""
         if first[0] != MARK:
             raise Fault("what it sends is no envelope")
         _, sender, size = HEAD.unpack(first + await reader.readexactly(HEAD.size - 1))
@@ -194,15 +198,15 @@ class Port:
             await reader.readinto(piece)
             size -= len(piece)
             if fits:
-                self.keep(client, len(piece))  # what came, and not what was announced
+                self.keep(client, len(piece))  # counts what arrived, not what was announced
                 kept += len(piece)
-                if kept == LARGE_PAGE:  # who has sent so much may take as much ahead
+                if kept == LARGE_PAGE:  # a client that sent this much may cause as much memory to be taken in advance
                     filling(place)
         return sender, place if fits else None
 
     async def wait_for_answers(self, client: Connection, size: int) -> None:
-        """Waits before so many bytes are too many, as long as a client is at it for longest whose request is answered:
-        that one would leave no less if it were cut off."""
+        """Wait while `size` further bytes would be too many and the client to disconnect is one whose request is being
+        answered: disconnecting that client would free nothing."""
         while self.kept + size > self.bounds.kept:
             others = [it for it in {*self.connections, *self.asking} if it.kept > PIECE and it is not client]
             if not others or min(others, key=lambda it: it.since) not in self.asking:
@@ -211,11 +215,11 @@ class Port:
             await self.changed.wait()
 
     def longest(self) -> int:
-        """The bytes of the longest request that is taken."""
+        """Return the bytes of the longest request that is accepted."""
         return self.shape.longest
 
     def place(self, size: int) -> memoryview:
-        """Memory for a request."""
+        """Return memory for a request."""
         return memory(size)
 
     async def answer(self, client: Connection, sender: int, request: Optional[Data]) -> Said:
@@ -224,14 +228,14 @@ class Port:
             self.tell(f"client {client} sends what is no request: {in_words(refused)}", "no request", client)
             return Said([envelope(write_frame(refused), number)])
         client.had_reply = True
-        return await self.reply(number, payload if len(payload) > PIECE else bytes(payload))  # a long one has no copy
+        return await self.reply(number, payload if len(payload) > PIECE else bytes(payload))  # long ones are not copied
 
     async def expect(self, request: Optional[Data]) -> None:
-        """Waits, before a request has its turn, for what others must do first."""
+        """Wait, before a request gets its turn, until it may be answered. For subclasses."""
 
     def give_way(self) -> bool:
-        """Ends the turn of the request that is being answered, as it waits for others, unless too many do; whether it
-        may wait. What is done unasked has no turn, and may."""
+        """End the turn of the request that is being answered, since it now waits for others, such as the ledger, unless
+        too many do so already. Returns whether it may wait; a task that answers no request has no turn, and may."""
         task = asyncio.current_task()
         if task in self.at_turn:
             if len(self.answers) - len(self.at_turn) >= ASIDE:
@@ -245,18 +249,19 @@ class Port:
             self.turns.release()
 
     def answered(self, client: Connection, size: int, task: "asyncio.Task[Said]") -> None:
-        """Keeps a reply in place of a request of so many bytes, or nothing for a client that was cut off."""
+        """Count the reply as kept in place of its request of `size` bytes; for a disconnected client count nothing."""
         self.end_turn(task)
         self.answers.discard(task)
         self.asking.discard(client)
-        failed = task.cancelled() or task.exception()  # which who waits for the reply hears, if anybody does
+        failed = task.cancelled() or task.exception()  # raised where the reply is awaited, if it still is
         if client not in self.connections:
             self.hold(client, -client.kept)
         elif not failed:
             self.keep(client, task.result().size - size)
 
     async def send(self, client: Connection, wire: Wire) -> None:
-        """Sends the replies, each once what it rests on is on the disk; small ones that are due at once go together."""
+        """Send the replies in order, each once the write that it depends on is on the disk. Small ones that are due
+        together are sent together."""
         due = list[Said]()
         while said := await client.replies.get():
             if said.size > SMALL or not said.is_due:
@@ -266,11 +271,11 @@ class Port:
             due.append(said)
             if said.size > SMALL or client.replies.empty():
                 await self.send_due(client, wire, due)
-            del said  # which is not in memory while the client is idle
+            del said  # so that the reply is not in memory while the client is idle
         await self.send_due(client, wire, due)
 
     async def send_due(self, client: Connection, wire: Wire, due: list[Said]) -> None:
-        """Sends replies together, of which nothing is kept then."""
+        """Send replies together within the deadline; after that they no longer count as kept."""
         if due:
             async with asyncio.timeout(self.bounds.seconds):
                 await write_parts(wire, [part for said in due for part in said.known])

@@ -1,4 +1,4 @@
-"""Fills a shard that began anew with what the others hold."""
+"""Fills a shard that was restarted empty with what the others hold."""
 import asyncio
 from collections.abc import Iterable
 
@@ -7,13 +7,14 @@ from .client import COUNTS, DONE, HELD, METADATA, PRIMARY, SECONDARY, SLIVERS, F
 
 
 async def give(shard: client.Shard, step: client.Step) -> None:
-    """Has a shard take a step, or raises `Failed`."""
+    """Asks a shard to take a step; raises `Failed` if it does not."""
     if other := (await client.take_steps(shard, [step]))[1]:
         raise Failed("it is not refilled", {shard.number: other})
 
 
 async def give_metadata(shard: client.Shard, others: client.Shards, identifier: bytes) -> bytes:
-    """Gives a shard that metadata, of those which others tell, which it takes; raises `Failed` where it takes none."""
+    """Gives a shard each metadata that the others return, until it accepts one, and returns that. Raises `Failed` if
+    the shard accepts none."""
     asked = client.write_frame(client.Symbol(identifier, PRIMARY, shard.number))
     heard = await asyncio.gather(*[client.listen(other, asked) for other in others])
     said = {number: words for number, _, words in heard}
@@ -28,10 +29,10 @@ async def give_metadata(shard: client.Shard, others: client.Shards, identifier: 
 async def refill(
     shard: client.Shard, others: client.Shards, identifiers: Iterable[bytes], until: int, walrus: client.Walrus
 ) -> None:
-    """Registers blobs at a shard that began anew, and gives it the metadata and both slivers of each, in its format.
+    """Registers blobs at an empty shard, and gives it the metadata and both slivers of each, in the blob's format.
 
-    They come from the others, of which 2f+1 must hold a blob; of a badly encoded one a proof is given instead. Raises
-    `Failed`, or `Refused` where too little comes."""
+    They come from the others, of which 2f+1 must hold a blob. For a badly encoded one the shard gets a proof instead.
+    Raises `Failed`, or `Refused` if too little is received."""
     shape, own = client.shape_of([shard, *others]), shard.number
     for identifier in identifiers:
         entry = client.write_frame(client.RegisterEntry(identifier, until))

@@ -9,13 +9,13 @@ from typing import Optional
 
 from . import client
 
-GRACE = 5.0  # seconds in which a process ends that said its last
-ENDINGS = {2: "it refuses its words", 5: "want of memory", 8: "a malformed stream", 9: "its 1,073,741,824 bytes came"}
+GRACE = 5.0  # seconds for a process to end by itself before it is killed
+ENDINGS = {2: "wrong arguments", 5: "out of memory", 8: "a malformed stream", 9: "1,073,741,824 bytes of requests came"}
 ENDINGS |= {10: "a clash", 127: "it was built for another processor"}
 
 
 def status_in_words(status: int) -> str:
-    """How a process ended, by what asyncio and subprocess say of it."""
+    """Returns in words how a process ended, from its return code in asyncio or subprocess."""
     meaning = f" ({ENDINGS[status]})" if status in ENDINGS else ""
     return f"signal {-status}" if status < 0 else f"status {status}{meaning}"
 
@@ -25,7 +25,7 @@ class Ended(ConnectionError):
 
 
 class Process:
-    """One `walrus serve`: requests go in, and each has a reply before the next one is taken."""
+    """One process `walrus serve`, which replies to each request before it takes the next one."""
 
     def __init__(self, words: Iterable[str], longest: int, seconds: Optional[float] = None):
         self.words, self.longest, self.seconds, self.sent = list(words), longest, seconds, 0
@@ -35,7 +35,8 @@ class Process:
         self.child = await asyncio.create_subprocess_exec(*self.words, stdin=PIPE, stdout=PIPE, limit=2**20)
 
     async def ask(self, requests: Iterable[bytes]) -> list[list[bytes]]:
-        """The replies to requests that are few and small, or one. A process that fails or is given up is ended."""
+        """Returns the replies to one request, or to a few small ones. If the process fails it is ended, and `Ended` is
+        raised; if the caller is cancelled, it is killed."""
         assert self.child and self.child.stdin and self.child.stdout
         data = [client.envelope(request) for request in requests]
         self.sent += sum(map(len, data))
@@ -69,7 +70,8 @@ class Process:
                 os.kill(self.child.pid, signal.SIGKILL)
 
     async def end(self, seconds: float = 0) -> int:
-        """Ends the input and waits so long for the process to end, then kills it; its status, 1 where there is none."""
+        """Ends the input and waits these seconds for the process to end, then kills it; without seconds, at once.
+        Returns its status, 1 if there is no process."""
         if not self.child or not self.child.stdin:
             return 1
         if seconds:
@@ -82,7 +84,7 @@ class Process:
 
 
 class ProcessShard(client.Shard):
-    """A shard that runs as a process of its own, `walrus serve`, until it is closed; `options` are further words."""
+    """A shard that runs as a process of its own, `walrus serve`, until it is closed; `options` are more arguments."""
 
     def __init__(
         self, walrus: client.Walrus, faults: int, number: int, *options: str, seconds: float = client.SECONDS
@@ -97,7 +99,7 @@ class ProcessShard(client.Shard):
         return self.process.stdout, self.process.stdin
 
     async def drop(self) -> str:
-        """Ends the input, and so the process; returns how that ended."""
+        """Ends the input, and so the process; returns in words how the process ended."""
         if not self.process or not self.process.stdin:
             return ""
         self.process.stdin.close()

@@ -1,4 +1,4 @@
-"""What follows from f, the number of shards that may lie, for the forms and lengths of what is said."""
+"""What follows from f, the number of shards that may lie: the forms and lengths of payloads."""
 
 import hashlib
 import struct
@@ -18,7 +18,7 @@ from .kinds import (
 
 
 def name_of(metadata: bytes) -> bytes:
-    """The identifier of the blob that a metadata is of."""
+    """Returns the identifier of the blob that a metadata belongs to."""
     front = 11 + (metadata[0] == SECOND_METADATA)
     level = [hashlib.sha256(b"\0" + leaf).digest() for (leaf,) in struct.iter_unpack("64s", metadata[front:])]
     while len(level) > 1:
@@ -29,19 +29,19 @@ def name_of(metadata: bytes) -> bytes:
 
 
 class Shape:
-    """What follows from f, the number of shards that may lie: how many there are, and how long their frames can be."""
+    """What follows from f, the number of shards that may lie: how many there are, and how long frames can be."""
 
     def __init__(self, faults: int) -> None:
         if not 1 <= faults <= MOST_FAULTS:
             raise ValueError(f"f is {faults}, and should be 1 to {MOST_FAULTS}")
         self.faults, self.shards, self.quorum = faults, 3 * faults + 1, 2 * faults + 1
-        self.symbols = 2 * faults + 1, faults + 1  # of a sliver, by its axis
-        self.widest = 2 * -(-LARGEST_BLOB // (2 * self.symbols[0] * self.symbols[1]))  # symbol, in bytes
-        self.longest = 38 + self.symbols[0] * (self.widest + 327)  # payload that a shard looks at
-        self.levels = (self.shards - 1).bit_length()  # digests of a path
+        self.symbols = 2 * faults + 1, faults + 1  # symbols of a sliver, by its axis
+        self.widest = 2 * -(-LARGEST_BLOB // (2 * self.symbols[0] * self.symbols[1]))  # most bytes of a symbol
+        self.longest = 38 + self.symbols[0] * (self.widest + 327)  # most bytes of a payload that shards examine
+        self.levels = (self.shards - 1).bit_length()  # digests of a Merkle path
 
     def allows(self, payload: bytes) -> bool:
-        """Whether its length and numbers are those of a metadata, sliver, opening or proof of some blob of this f."""
+        """Whether a payload has the length and numbers of a metadata, sliver, opening or proof of a blob of this f."""
         kind, opened = payload[0] if payload else 0, 7 + 32 * self.levels
         if kind in (METADATA, SECOND_METADATA):
             front = bytes([kind, 2] if kind == SECOND_METADATA else [kind]) + self.faults.to_bytes(2, "big")
@@ -50,24 +50,24 @@ class Shape:
             return False
         count = self.symbols[payload[33]]
         lengths = {SLIVER: (40, count, 0), OPENING: (36, 1, opened), PROOF: (38, count, opened)}
-        ahead, count, beside = lengths.get(kind, (len(payload), 1, 0))  # a part has so many symbols, each beside others
+        ahead, count, beside = lengths.get(kind, (len(payload), 1, 0))  # bytes ahead; symbols; bytes beside each
         symbol, rest = divmod(len(payload) - ahead, count)
         return rest == 0 and symbol - beside in range(2, self.widest + 1, 2)
 
     def symbol_of(self, metadata: bytes) -> int:
-        """The bytes of a symbol of a blob."""
+        """Returns the bytes of each symbol of a blob with this metadata."""
         front = 3 + (metadata[0] == SECOND_METADATA)
         length = int.from_bytes(metadata[front:][:8], "big")
         return 2 * max(1, -(-length // (2 * self.symbols[0] * self.symbols[1])))
 
     def lengths_of(self, metadata: bytes, request: bytes) -> tuple[int, tuple[int, ...]]:
-        """The bytes of what a shard replies to a read or a request for a symbol of a blob, and those of proofs."""
+        """Returns the bytes of the part of a blob that a read or a request for a symbol gets, and those of proofs."""
         symbol, opened = self.symbol_of(metadata), 7 + 32 * self.levels
         length = 40 + self.symbols[PRIMARY] * symbol if request[0] == READ else 36 + opened + symbol
         return length, tuple(38 + count * (symbol + opened) for count in self.symbols)
 
     def keeps(self, payload: bytes, request: bytes, shard: int) -> int:
-        """The kind, of `KINDS`, of a payload that this shard may reply to a read or a request for a symbol, else 0."""
+        """Returns the kind, of `KINDS`, of a payload if this shard may reply so to a read or symbol request, else 0."""
         own = {READ: (SLIVER, request[1:33] + struct.pack(">BH", PRIMARY, shard)), SYMBOL: (OPENING, request[1:])}
         fronts = {METADATA: b"", SECOND_METADATA: b"", PROOF: request[1:33], **dict([own.get(request[0], (0, b""))])}
         if request[0] not in own or not self.allows(payload) or payload[0] not in fronts:

@@ -1,4 +1,4 @@
-"""A shard behind two streams, and what it is asked: requests in order, each with its reply, before a deadline."""
+"""A shard behind two streams, and what it is asked: requests in order, each with its reply, within a deadline."""
 
 import asyncio
 import contextlib
@@ -15,42 +15,42 @@ from .shapes import Shape, name_of
 from .streams import Sink, Source, Streams, take_envelope, write_parts
 from .wire import LARGE, Data
 
-SECONDS = 10.0  # a deadline for what is asked at once
-LONGEST_REPLY = 4  # the frames of a reply, with the last answer
-LONGEST_END = 133  # bytes of the longest end of a reply, a clash of two texts of 65
-AGAIN, PROVES = 0, -1  # in place of a kind, where something was read past that may be asked for again, or as a proof
-LEAST = 0.2  # seconds until others are asked as well, at least
+SECONDS = 10.0  # the deadline for requests that are sent together
+LONGEST_REPLY = 4  # most frames of a reply, with the answer at its end
+LONGEST_END = 133  # bytes of the longest end of a reply: a hash collision, with its two texts of 65
+AGAIN, PROVES = 0, -1  # keys beside kinds: a payload was skipped that may be asked for again, or as a proof
+LEAST = 0.2  # least seconds until other shards are asked as well
 MOST = 1.0  # and at most
-USUAL = 0.2  # seconds for which a shard is taken to need first
+USUAL = 0.2  # seconds that a shard is assumed to need at first
 
 Request = Union[bytes, list[Data]]  # a payload, which may come in parts
-Step = tuple[str, bytes, Sequence[int]]  # a request in words and as a payload, and the codes of answers that will do
-Reply = NamedTuple("Reply", [("kept", dict[int, bytes]), ("end", Union[Answer, Clash])])  # what is of use, by its kind
-Heard = Optional[Callable[[Reply], object]]  # what each reply is told to
+Step = tuple[str, bytes, Sequence[int]]  # a request in words and as a payload, and the accepted codes of answers
+Reply = NamedTuple("Reply", [("kept", dict[int, bytes]), ("end", Union[Answer, Clash])])  # useful payloads by kind
+Heard = Optional[Callable[[Reply], object]]  # is called with each reply
 
 
 class Asked(bytes):
-    """The payload of a request to several shards, whose replies are wanted together."""
+    """The payload of a request, and in `basket` the memory into which large payloads of its replies come."""
 
     basket: Basket
     is_for_proof = False
 
     @classmethod
     def of(cls, payload: bytes, count: int, most: int) -> "Asked":
-        """A request of which so many replies are needed, of at most so many; of none nothing is, but for what is
-        small."""
+        """Returns a request to several shards of which `count` replies are needed, with memory for at most `most`. If
+        both are 0, only small payloads are kept."""
         made = cls(payload)
         made.basket = Basket(count, most)
         return made
 
     @classmethod
     def alone(cls, payload: bytes) -> "Asked":
-        """A request whose reply is wanted in memory of its own."""
+        """Returns a request whose reply has memory of its own."""
         return cls.each([payload])[0]
 
     @classmethod
     def each(cls, payloads: Sequence[bytes]) -> list["Asked"]:
-        """Requests to one shard for symbols of one blob, each of whose replies is wanted in memory of its own."""
+        """Returns requests to one shard for symbols of one blob, each of whose replies has memory of its own."""
         asked, sieve = [cls(payload) for payload in payloads], Sieve(len(payloads))
         for it in asked:
             it.basket = sieve
@@ -58,13 +58,13 @@ class Asked(bytes):
 
     @classmethod
     def for_proof(cls, payload: bytes) -> "Asked":
-        """A request of whose reply a proof that the blob was badly encoded is wanted, and nothing else that is long."""
+        """Returns a request for a proof of bad encoding: nothing else that is large is kept of its reply."""
         made = cls(payload)
         made.basket, made.is_for_proof = Sieve(1, True), True
         return made
 
     def hear(self, shape: Shape, payload: bytes) -> None:
-        """Has the lengths of what may come once the blob's own metadata did, if any of it is long."""
+        """Once the blob's own metadata has come, sets the lengths of the payloads that may follow, if any is large."""
         is_metadata = payload[:1] in (bytes([METADATA]), bytes([SECOND_METADATA])) and shape.allows(payload)
         if not self.basket.size and is_metadata:
             size, proofs = shape.lengths_of(payload, self)
@@ -73,7 +73,7 @@ class Asked(bytes):
 
 
 class Failed(Exception):
-    """What was asked of shards did not come about; `said` has by shard a request and its answer, or the fault."""
+    """A request to shards failed; `said` has by shard the request and its answer, or the fault."""
 
     def __init__(self, text: str, said: dict[int, str]) -> None:
         super().__init__("; ".join([text] + [f"shard {it}: {said[it]}" for it in sorted(said) if said[it]]))
@@ -81,7 +81,7 @@ class Failed(Exception):
 
 
 def fault_in_words(error: Exception, seconds: float) -> str:
-    """Why a shard did not reply within these seconds."""
+    """Returns in words why a shard did not reply within these seconds."""
     if isinstance(error, (EOFError, TimeoutError)):
         return "it ended" if isinstance(error, EOFError) else f"no whole reply within {seconds:g} s"
     number = getattr(error, "errno", None) or 0
@@ -94,16 +94,17 @@ class Shard(contextlib.AbstractAsyncContextManager["Shard"]):
     def __init__(self, number: int, faults: int, seconds: float = SECONDS) -> None:
         self.number, self.shape, self.seconds, self.fault = number, Shape(faults), seconds, ""
         self.streams: Optional[Streams] = None
-        self.took = USUAL  # seconds for an exchange, as the slow ones were of late
-        self.late = False  # whether one is due
+        self.took = USUAL  # seconds for an exchange: a decaying maximum
+        self.late = False  # whether a reply is overdue
         self.turn, self.exchanges = asyncio.Lock(), set[asyncio.Task[Any]]()
 
     async def open(self) -> Streams:
-        raise NotImplementedError  # the streams, which are opened where they are not open yet
+        raise NotImplementedError  # returns the streams, which it opens if they are not open
 
     async def ask(self, *requests: Request) -> list[Reply]:
-        """The replies to payloads, in order and up to a clash, in one deadline; raises `ConnectionError`."""
-        task = asyncio.create_task(self.exchange(requests))  # it goes on where nobody waits, so that all is in step
+        """Returns the replies to payloads, in order and up to a clash, within one deadline. Raises `ConnectionError` if
+        the shard fails, which it then does for good."""
+        task = asyncio.create_task(self.exchange(requests))  # it goes on if nobody waits, to keep replies in step
         self.exchanges.add(task)
         task.add_done_callback(self.exchanged)
         return await asyncio.shield(task)
@@ -111,7 +112,7 @@ class Shard(contextlib.AbstractAsyncContextManager["Shard"]):
     def exchanged(self, task: "asyncio.Task[Any]") -> None:
         self.exchanges.discard(task)
         if not task.cancelled():
-            task.exception()  # which who waits for the replies hears, if anybody does
+            task.exception()  # is marked as seen: perhaps nobody waits for the replies any more
 
     async def exchange(self, requests: Sequence[Request]) -> list[Reply]:
         async with self.turn:
@@ -129,16 +130,16 @@ class Shard(contextlib.AbstractAsyncContextManager["Shard"]):
                 raise ConnectionError(self.fault) from None
 
     async def send(self, writer: Sink, requests: Sequence[Request]) -> None:
-        """Sends requests one behind the other, in few writes."""
+        """Sends requests one after the other, in few writes."""
         parts = list[Data]()
         for request in requests:
             payload = request if isinstance(request, list) else [request]
             parts += [HEAD.pack(MARK, self.number, sum(map(len, payload))), *payload]
-        with contextlib.suppress(OSError):  # what ended is told by what is heard
+        with contextlib.suppress(OSError):  # `hear` notices that the stream ended
             await write_parts(writer, parts)
 
     async def hear(self, reader: Source, requests: Sequence[Request], heard: Heard = None) -> list[Reply]:
-        """The replies up to a clash, each of which is told as soon as it came."""
+        """Returns the replies up to a clash, and calls `heard` with each as soon as it came."""
         replies: list[Reply] = []
         while len(replies) < len(requests) and not (replies and isinstance(replies[-1].end, Clash)):
             replies.append(await self.hear_one(reader, requests[len(replies)]))
@@ -149,7 +150,7 @@ class Shard(contextlib.AbstractAsyncContextManager["Shard"]):
     async def hear_one(self, reader: Source, request: Request) -> Reply:
         kept: dict[int, bytes] = {}
         brings_parts = isinstance(request, bytes) and request[:1] in (bytes([READ]), bytes([SYMBOL]))
-        longest = self.shape.longest if brings_parts else LONGEST_END  # what is of no use takes no memory
+        longest = self.shape.longest if brings_parts else LONGEST_END  # so useless payloads take no memory
         for _ in range(LONGEST_REPLY):
             basket = request.basket if isinstance(request, Asked) else None
             sender, payload = await take_envelope(reader, longest, basket)
@@ -170,7 +171,7 @@ class Shard(contextlib.AbstractAsyncContextManager["Shard"]):
         raise Fault("its reply does not end")
 
     async def drop(self) -> str:
-        """Closes the streams; returns what more is known of their end."""
+        """Closes the streams; returns in words what else is known about their end."""
         if self.streams:
             self.streams[1].transport.abort()
         return ""
@@ -186,7 +187,7 @@ class Shard(contextlib.AbstractAsyncContextManager["Shard"]):
 
 
 class SocketShard(Shard):
-    """A shard behind a socket, at a host and a port; `options` are further words for asyncio.open_connection."""
+    """A shard behind a socket, at a host and a port; `options` are further arguments of asyncio.open_connection."""
 
     def __init__(self, number: int, faults: int, address: tuple[str, int], seconds: float = SECONDS) -> None:
         super().__init__(number, faults, seconds)
@@ -203,7 +204,7 @@ Shards = Sequence[Shard]
 
 
 def shape_of(shards: Shards) -> Shape:
-    """The one shape of these shards; raises `ValueError` where they are no shards of one committee."""
+    """Returns the shape that these shards share; raises `ValueError` if they are not distinct ones of one committee."""
     numbers, faults = [shard.number for shard in shards], {shard.shape.faults for shard in shards}
     if len(faults) != 1:
         raise ValueError("no shard is given" if not shards else f"the shards are of several f: {sorted(faults)}")
@@ -213,7 +214,8 @@ def shape_of(shards: Shards) -> Shape:
 
 
 async def take_steps(shard: Shard, steps: Sequence[Step]) -> tuple[int, str]:
-    """How many of these steps a shard takes, and the first answer that will not do, or the fault."""
+    """Asks a shard to take these steps. Returns how many it took, and in words the first answer that is not accepted,
+    or the fault; these words are empty if it took all."""
     try:
         replies = await shard.ask(*[payload for _, payload, _ in steps])
     except ConnectionError as error:
@@ -224,7 +226,8 @@ async def take_steps(shard: Shard, steps: Sequence[Step]) -> tuple[int, str]:
 
 
 async def listen(shard: Shard, request: bytes) -> tuple[int, dict[int, bytes], str]:
-    """The shard's number, what can be of use of its reply, and this in words."""
+    """Asks a shard for parts. Returns its number, the useful payloads of its reply by kind, and in words what these
+    are, or why there are none."""
     try:
         [reply] = await shard.ask(request)
     except ConnectionError as error:
@@ -235,5 +238,5 @@ async def listen(shard: Shard, request: bytes) -> tuple[int, dict[int, bytes], s
 
 
 def patience_for(shards: Iterable[Shard]) -> float:
-    """Seconds until others are asked in place of these, by what these needed before."""
+    """Returns the seconds until others are asked in place of these shards, by the time that these took before."""
     return min(max(LEAST, 2 * max((shard.took for shard in shards), default=0.0)), MOST)

@@ -9,11 +9,11 @@ from .envelopes import HEAD, MARK
 from .kinds import Fault
 from .wire import Data
 
-SLICE = 262_144  # bytes that are written at once of a long request
+SLICE = 262_144  # bytes of a long request that are written at once
 
 
 class Source(Protocol):
-    """What a shard says: a `StreamReader`, or another thing that reads."""
+    """What a shard sends: a `StreamReader`, or another object with these methods."""
 
     async def readexactly(self, n: int, /) -> Any:
         ...
@@ -26,7 +26,7 @@ class Source(Protocol):
 
 
 class Sink(Protocol):
-    """What is said to a shard: a `StreamWriter`, or another thing that writes."""
+    """What a shard is sent: a `StreamWriter`, or another object with these methods."""
 
     @property
     def transport(self) -> Any:
@@ -47,7 +47,7 @@ def envelope(payload: bytes, sender: int = 0) -> bytes:
 
 
 def split(stream: bytes) -> list[tuple[int, bytes]]:
-    """The sender and the payload of each envelope; raises `Fault` with the first byte that no whole one covers."""
+    """Returns the sender and payload of each envelope; raises `Fault` with the place of the first that is not whole."""
     found, place = [], 0
     while place < len(stream):
         start = place + HEAD.size
@@ -61,8 +61,8 @@ def split(stream: bytes) -> list[tuple[int, bytes]]:
 
 
 async def take_envelope(stream: Source, longest: int, basket: Optional[Basket] = None) -> tuple[int, bytes]:
-    """The sender and the payload of the next envelope; raises `Fault` where it is none, or longer than this. A basket
-    is where large ones come, or `PASSED` stands for them."""
+    """Returns the sender and the payload of the next envelope; raises `Fault` if it is none, or longer than this. With
+    a basket, large payloads come there, or are skipped and replaced by a mark such as `PASSED`."""
     mark, sender, size = HEAD.unpack(await stream.readexactly(HEAD.size))
     if mark != MARK or size > longest:
         raise Fault("too long" if mark == MARK else "no envelope")
@@ -72,7 +72,7 @@ async def take_envelope(stream: Source, longest: int, basket: Optional[Basket] =
 
 
 async def write_parts(stream: Sink, parts: Sequence[Data]) -> None:
-    """Writes parts one behind the other, and no more ahead than a slice."""
+    """Writes parts one after the other: short ones joined, long ones in slices, which are drained one by one."""
     ahead = bytearray()
     for part in map(memoryview, parts):
         if len(ahead) + len(part) < SLICE:

@@ -1,5 +1,5 @@
-"""A connection whose bytes come straight to where they are wanted, also over TLS: asyncio's streams copy each of them
-six times. It has the methods of a `StreamReader` and a `StreamWriter` that envelopes need."""
+"""A connection whose bytes are read straight into the caller's memory, also over TLS: asyncio's streams copy each byte
+six times. It has those methods of a `StreamReader` and a `StreamWriter` that envelopes need."""
 import asyncio
 import collections
 import errno
@@ -10,25 +10,25 @@ from typing import Any, Optional, Union, cast
 
 from . import buffers
 
-LANDING, LARGE = 16_384, 65_536  # bytes that come ahead of who reads; of what has a memory of its own
-LACKING, LULL = (errno.EMFILE, errno.ENFILE, errno.ENOBUFS, errno.ENOMEM), 1.0  # what passes; seconds until it may
+LANDING, LARGE = 16_384, 65_536  # bytes received ahead of a reader; bytes from which data has a mapping of its own
+LACKING, LULL = (errno.EMFILE, errno.ENFILE, errno.ENOBUFS, errno.ENOMEM), 1.0  # passing errors; seconds until a retry
 Data = Union[bytes, bytearray, memoryview]
 
 
 def memory(size: int) -> memoryview:
-    """Memory for so many bytes, which takes little before they come."""
+    """Return memory for `size` bytes; a large one takes little until it is written."""
     return memoryview(bytearray(size) if size < LARGE else buffers.mapped(size))[:size]
 
 
 def filling(place: memoryview) -> memoryview:
-    """Has memory of which the rest comes now, or soon, take large pages from here on."""
+    """Use large pages from now on for a mapping that will soon be filled, and return it."""
     if isinstance(place.obj, mmap.mmap):
         buffers.in_large_pages(place.obj)
     return place
 
 
 def joined(parts: Sequence[Data]) -> Data:
-    """Parts one behind the other."""
+    """Return the parts joined, in one memory."""
     size, place = sum(map(len, parts)), 0
     data = filling(memory(size))
     for part in parts:
@@ -38,20 +38,20 @@ def joined(parts: Sequence[Data]) -> Data:
 
 
 class Wire(asyncio.BufferedProtocol):
-    """Both ends of a connection."""
+    """Reads from a connection and writes to it. At most one task reads at a time."""
 
     transport: asyncio.Transport
 
     def __init__(self) -> None:
-        self.landing, self.first, self.last = memoryview(bytearray(LANDING)), 0, 0  # what came, and nobody has read
-        self.target: Optional[memoryview] = None  # what is read into just now
+        self.landing, self.first, self.last = memoryview(bytearray(LANDING)), 0, 0  # bytes received, but not yet read
+        self.target: Optional[memoryview] = None  # the rest of the memory that `readinto` is filling
         self.ended, self.paused, self.full = False, False, False
         self.fault: Optional[BaseException] = None
         self.waiting: Optional["asyncio.Future[None]"] = None
         self.draining: "collections.deque[asyncio.Future[None]]" = collections.deque()
 
     def connection_made(self, transport: asyncio.BaseTransport) -> None:
-        self.transport = cast(asyncio.Transport, transport)  # uvloop's, over TLS, are of no class of asyncio's
+        self.transport = cast(asyncio.Transport, transport)  # those of uvloop over TLS are no `asyncio.Transport`
 
     def get_buffer(self, sizehint: int) -> memoryview:
         if self.target:
@@ -66,7 +66,7 @@ class Wire(asyncio.BufferedProtocol):
         if self.target:
             self.target = self.target[nbytes:]
             if self.target:
-                return  # who reads goes on once all of it came
+                return  # the reader is woken once all of it has arrived
         else:
             self.last += nbytes
             if self.last == LANDING and not self.paused:
@@ -77,7 +77,7 @@ class Wire(asyncio.BufferedProtocol):
     def eof_received(self) -> bool:
         self.ended = True
         self.wake()
-        return self.transport.get_extra_info("sslcontext") is None  # over TLS nothing goes out behind the end
+        return self.transport.get_extra_info("sslcontext") is None  # over TLS nothing can be sent after the end
 
     def connection_lost(self, exc: Optional[BaseException]) -> None:
         self.ended, self.fault = True, exc
@@ -95,7 +95,7 @@ class Wire(asyncio.BufferedProtocol):
         return self.fault
 
     async def more(self) -> None:
-        """Waits until more came, or nothing more will."""
+        """Wait until more bytes have arrived, or none will. Raises if the connection has ended already."""
         if self.ended:
             raise self.fault or asyncio.IncompleteReadError(b"", None)
         if self.paused:
@@ -108,7 +108,7 @@ class Wire(asyncio.BufferedProtocol):
             self.waiting = None
 
     def take(self, most: int) -> memoryview:
-        """What came already, at most so much; it is there until more comes."""
+        """Return what has arrived, at most `most` bytes: a view that is valid until more bytes arrive."""
         found = self.landing[self.first : self.last][:most]  # noqa: E203
         self.first += len(found)
         if self.first == self.last:
@@ -116,7 +116,7 @@ class Wire(asyncio.BufferedProtocol):
         return found
 
     async def read(self, most: int) -> bytes:
-        """At least a byte, and at most so many; nothing where no more come."""
+        """Wait for bytes and return them, from one to `most`; none if the connection has ended."""
         while self.first == self.last:
             if self.ended:
                 return b""
@@ -124,7 +124,7 @@ class Wire(asyncio.BufferedProtocol):
         return bytes(self.take(most))
 
     async def readinto(self, target: memoryview) -> None:
-        """Reads as many bytes as fit there; raises `EOFError` where so many do not come."""
+        """Read until the target is full. Raises `EOFError`, or the connection's fault, if it ends before that."""
         found = self.take(len(target))
         target[: len(found)] = found
         self.target = target[len(found) :]  # noqa: E203
@@ -135,12 +135,12 @@ class Wire(asyncio.BufferedProtocol):
             self.target = None
 
     def divert(self) -> None:
-        """Has what is read into a memory go elsewhere from here on, as somebody else has that memory."""
+        """Make the pending `readinto` write to other memory from now on, since its target gets another use."""
         if self.target:
             self.target = memoryview(bytearray(len(self.target)))
 
     async def readexactly(self, size: int) -> Data:
-        """So many bytes; a large number of them in a memory of their own."""
+        """Return the next `size` bytes, as `bytes` if they are few, otherwise as a read-only view of a mapping."""
         target = filling(memory(size))
         await self.readinto(target)
         return bytes(target) if size < LARGE else target.toreadonly()
@@ -159,7 +159,7 @@ class Wire(asyncio.BufferedProtocol):
         self.draining.clear()
 
     async def drain(self) -> None:
-        """Waits while much is to be sent still; raises `ConnectionError` where it will not be."""
+        """Wait while the write buffer is full. Raises `ConnectionError`, or the connection's fault, if it was lost."""
         if self.full and not self.ended:
             waiting = asyncio.get_running_loop().create_future()
             self.draining.append(waiting)
@@ -175,17 +175,17 @@ class Wire(asyncio.BufferedProtocol):
 
 
 async def connect(host: str, port: int, **words: Any) -> Wire:
-    """A connection to an address; `words` are further ones for `create_connection`."""
+    """Connect to an address; `words` are further arguments of `create_connection`."""
     _, wire = await asyncio.get_running_loop().create_connection(Wire, host, port, **words)
     return wire
 
 
 def bound(host: str, port: int) -> list[socket.socket]:
-    """Sockets that listen, one for each address of a host, but for those of a kind that this system lacks."""
+    """Return listening sockets, one for each address of a host, except for address families that this system lacks."""
     made = list[socket.socket]()
     try:
         found = socket.getaddrinfo(host or None, port, type=socket.SOCK_STREAM, flags=socket.AI_PASSIVE)
-        for family, _, _, _, address in dict.fromkeys(found):  # as a name may stand for one of them twice
+        for family, _, _, _, address in dict.fromkeys(found):  # a name may have the same address twice
             try:
                 made.append(socket.create_server(address, family=family, backlog=1024))
             except OSError as fault:
@@ -201,16 +201,16 @@ def bound(host: str, port: int) -> list[socket.socket]:
 
 
 async def accept(listening: socket.socket, come: Callable[[socket.socket, Any], Coroutine[Any, Any, None]]) -> None:
-    """Has each connection that comes, and its address, be seen to in a task, before anything is read of it. What does
-    not let any come, such as no descriptor that is left, is told, and passes."""
+    """Accept connections, and start a task `come` with each and its address before anything is read from it. A lack of
+    resources, such as descriptors, is reported to the loop's exception handler, and accepting is retried."""
     loop = asyncio.get_running_loop()
     with listening:
         while True:
-            pause = 0.0  # others go on between two
+            pause = 0.0  # other tasks run between two connections
             try:
                 loop.create_task(come(*await loop.sock_accept(listening)))
             except OSError as fault:
                 if fault.errno in LACKING:
                     pause = LULL
-                    loop.call_exception_handler({"message": "no connection is taken just now", "exception": fault})
+                    loop.call_exception_handler({"message": "no connection can be accepted now", "exception": fault})
             await asyncio.sleep(pause)

@@ -1,4 +1,4 @@
-"""Runs the commands of walrus-net; an interrupt or a lack while Python imports what they need is one sentence too."""
+"""Runs the commands of walrus-net. An interrupt or a missing module during the imports is one sentence, too."""
 import sys
 
 
@@ -14,7 +14,7 @@ def main() -> int:
         if fault.name not in ("aiohttp", "cryptography"):
             raise
         advice = f"apt install python3-{fault.name}, or pip install {fault.name}"
-        print(f"walrus-net: {fault.name} is not here, which the network stands on: {advice}", file=sys.stderr)
+        print(f"walrus-net: {fault.name}, which the network needs, is not installed: {advice}", file=sys.stderr)
         return 1
 
 

@@ -1,4 +1,4 @@
-"""The access log: a line for each request in the common format, with the name of the token that was shown."""
+"""The access log: a line for each request in the Common Log Format, with the name of its token."""
 import datetime
 import logging
 import logging.handlers
@@ -10,7 +10,7 @@ from aiohttp.abc import AbstractAccessLogger
 
 
 class CommonLog(AbstractAccessLogger):
-    """Says ADDRESS - NAME [TIME] "REQUEST" STATUS BYTES of each request."""
+    """Writes ADDRESS - NAME [TIME] "REQUEST" STATUS BYTES for each request."""
 
     def log(self, request: web.BaseRequest, response: web.StreamResponse, time: float) -> None:
         token, flow = request.get("token"), request.get("flow")
@@ -27,12 +27,12 @@ def stamp() -> str:
 
 
 def escaped(text: str) -> str:
-    """A text that a client sent, so that it neither ends the field of a log nor the line."""
+    """Returns a client's text in a form that ends neither a field of the log nor the line."""
     return "".join(it if " " <= it <= "~" and it not in '"\\' else f"\\x{ord(it):02x}" for it in text)
 
 
 def log_to(place: str) -> Optional[logging.Logger]:
-    """The log in a file, which may be moved away while it is written, or on standard output; none for no name."""
+    """Returns the log in a file, which may be moved away meanwhile, or on standard output (`-`); None for no name."""
     if not place:
         return None
     log = logging.Logger("walrus.access", logging.INFO)

@@ -1,5 +1,5 @@
-"""A blob that was badly encoded is announced: a gateway whose read of it ends in a rejection recovers a proof, gives it
-to the shards that answer for the blob and has them attest, so that the ledger says that the blob is invalid."""
+"""Announcing badly encoded blobs: if a read ends in a rejection, the gateway recovers a proof, gives it to the shards
+of the writing committee and has them attest, so that the ledger declares the blob invalid."""
 import asyncio
 import collections
 import random
@@ -15,13 +15,13 @@ from .peers import Seat
 from .pieces import Memory, reading_needs
 from .problems import Problem
 
-TRIES, PAUSE = 5, 10.0  # how often a blob is tried, and seconds between two tries
-WAITING, TOLD = 64, 10  # blobs that wait for their turn at most; findings that are told
-HEARD = 20.0  # seconds in which the ledger shows what was attested
+TRIES, PAUSE = 5, 10.0  # the most tries for a blob, and seconds between two of them
+WAITING, TOLD = 64, 10  # the most blobs that wait for their turn; the most findings that are kept
+HEARD = 20.0  # seconds to wait until the ledger shows what was attested
 
 
 class Announcer:
-    """Announces blobs, one at a time. `findings` has what came of the last ones."""
+    """Announces badly encoded blobs, one at a time. `findings` has the outcomes of the last ones, newest first."""
 
     def __init__(self, network: Network, memory: Memory):
         self.network, self.memory, self.turn = network, memory, asyncio.Lock()
@@ -29,7 +29,7 @@ class Announcer:
         self.counts: "collections.Counter[str]" = collections.Counter()
 
     def hear(self, identifier: bytes) -> None:
-        """A read of a blob ended in a rejection."""
+        """Begins to announce a blob of which a read ended in a rejection, unless that is done or too many wait."""
         if identifier in self.tasks or self.network.ledger.invalid(identifier) or len(self.tasks) >= WAITING:
             return
         task = self.tasks[identifier] = asyncio.create_task(self.announce(identifier))
@@ -42,7 +42,7 @@ class Announcer:
         await asyncio.gather(*tasks, return_exceptions=True)
 
     async def announce(self, identifier: bytes) -> None:
-        """Has a blob declared invalid, and says what came of it."""
+        """Tries to have a blob declared invalid, and records and logs the outcome."""
         said = ""
         for number in range(TRIES):
             await asyncio.sleep(PAUSE * bool(number))
@@ -61,7 +61,8 @@ class Announcer:
         print(f"{identifier.hex()} was badly encoded, and {outcome}: {said}", file=sys.stderr, flush=True)
 
     async def declare(self, identifier: bytes) -> str:
-        """Gives a proof to shards, and waits until the ledger says what they attest; what they say in words."""
+        """Gives a proof to the shards, has them attest, and waits until the ledger declares the blob invalid, or for
+        `HEARD` seconds. Returns the shards' replies in words."""
         network, ledger = self.network, self.network.ledger
         async with self.memory.share(sum(reading_needs(client.LARGEST_BLOB))):
             proof = await self.prove(identifier)
@@ -72,14 +73,14 @@ class Announcer:
         words = dict[int, str]()
         for step in (("store the proof", proof, (client.DONE, client.HELD)), ("attest", attest, client.COUNTS)):
             said = await all_of(client.take_steps(seat, [step]) for seat in seats)
-            words = {it.number: words.get(it.number) or text for it, (_, text) in zip(seats, said)}  # one word a node
+            words = {it.number: words.get(it.number) or text for it, (_, text) in zip(seats, said)}  # first refusals
         await network.until(lambda it: it.invalid(identifier), HEARD)
         attested = [str(number) for number, text in words.items() if not text]
         refused = [f"shard {number}: {text}" for number, text in words.items() if text]
         return "; ".join([f"shards {' '.join(attested) or 'none'} attest it", *refused])
 
     async def prove(self, identifier: bytes) -> bytes:
-        """A proof, from symbols of a sliver that others give; which sliver was badly encoded is not known before."""
+        """Returns a proof, or nothing: tries slivers in random order, as it is not known which was badly encoded."""
         ledger = self.network.ledger
         for owners in dict.fromkeys((ledger.owners(ledger.home_epoch(identifier)), ledger.now, ledger.writing)):
             seats = self.seats(owners)
@@ -90,10 +91,10 @@ class Announcer:
         return b""
 
     async def recover(self, seats: Sequence[Seat], target: client.Symbol) -> Optional[bytes]:
-        """A proof, where the symbols of this sliver show that it was badly encoded."""
+        """Returns a proof if the symbols of this sliver that seats return show that it was badly encoded; else None."""
         try:
             status, frame = await client.recover(seats, target, self.network.walrus)
-        except client.Refused:  # of this sliver too little is heard
+        except client.Refused:  # too few symbols of this sliver are heard
             return None
         return frame if status == 3 else None
 

@@ -1,6 +1,6 @@
-"""The files of a folder as they come: in a tar (ustar, with headers of pax and GNU), or in a form.
+"""Reads the files of a folder from a tar (ustar, with pax and GNU headers) or from a form, while it arrives.
 
-Both come from anybody: what is read ahead has a bound, names are checked, what is no file is refused by its name."""
+Anybody may send one: what is read ahead is bounded, names are checked, and entries that are no files are refused."""
 import array
 import email
 import functools
@@ -12,16 +12,16 @@ from .manifest import Wrong, as_path, shown
 from .problems import Problem
 from .source import BROKEN, Parts, Source
 
-BLOCK, MOST_FIELDS = 512, 65_536  # bytes of a block of a tar, and of what it tells of one of its files
-SPARSE = "GNU.sparse."  # what the fields of a sparse file begin with
+BLOCK, MOST_FIELDS = 512, 65_536  # bytes of a block of a tar; most bytes of one pax or GNU header
+SPARSE = "GNU.sparse."  # the prefix of a sparse file's pax fields
 OTHERS = {b"1": "a link", b"2": "a link", b"3": "a device", b"4": "a device", b"6": "a pipe", b"S": "a sparse file"}
 ASKED = "send a tar, or the files as multipart/form-data with a path as file name, as curl -F 'a=@FILE;filename=PATH'"
-# A file that comes: its path, its length as far as that is known before, and its bytes, which are read before the next.
+# A file that arrives: its path, its length if known in advance, and its bytes, which are read before the next file.
 Coming = NamedTuple("Coming", [("path", str), ("length", Optional[int]), ("parts", Parts)])
 
 
 def opened(kind: str) -> Callable[[Source], AsyncGenerator[Coming, None]]:
-    """What reads the files of a body of this media type."""
+    """Returns the function that reads the files of a body of media type `kind`."""
     told = email.message_from_string(f"Content-Type: {kind}\n\n")
     if not kind or told.get_content_type() in ("application/x-tar", "application/tar", "application/octet-stream"):
         return files_of_tar
@@ -29,7 +29,7 @@ def opened(kind: str) -> Callable[[Source], AsyncGenerator[Coming, None]]:
 
 
 def checked(name: bytes) -> str:
-    """A path in the folder; raises 400 where it is none."""
+    """Returns a name as a path in the folder; raises 400 if no file of a folder may have it."""
     try:
         return as_path(name)
     except Wrong as fault:
@@ -37,15 +37,15 @@ def checked(name: bytes) -> str:
 
 
 async def files_of_tar(source: Source) -> AsyncGenerator[Coming, None]:
-    """The files of a tar. Its folders count only by the files in them."""
-    long, told = b"", dict[str, bytes]()  # what stands before a file: its name as GNU has it, its fields as pax
+    """Yields the files of a tar. The names of its folders are checked, but an empty folder is not kept."""
+    long, told = b"", dict[str, bytes]()  # of the headers before a file: GNU's long name, fields of pax
     while (head := await source.exactly(BLOCK)).strip(b"\0"):
         if len(head) < BLOCK or not is_sum(head):
             raise Problem(400, BROKEN)
         kind, size, name = head[156:157], number_of(head[124:136]), name_in(head)
         if kind in (b"x", b"g", b"L", b"K"):
             if size > MOST_FIELDS:
-                raise Problem(400, f"what the tar tells of a file has more than {MOST_FIELDS} bytes")
+                raise Problem(400, f"a pax or GNU header of the tar has more than {MOST_FIELDS} bytes")
             data = (await source.exactly(size + -size % BLOCK))[:size]
             if kind == b"L":
                 long = data.rstrip(b"\0")
@@ -66,7 +66,7 @@ async def files_of_tar(source: Source) -> AsyncGenerator[Coming, None]:
             yield Coming(path, size, parts)
         else:
             text = "a sparse file" if is_sparse else OTHERS.get(kind, "no file")
-            raise Problem(400, f"{shown(name)} is {text}: a folder has files alone; leave it out, or tar with -h")
+            raise Problem(400, f"{shown(name)} is {text}: a folder has only files; leave it out, or use tar -h")
         if len(await source.exactly(-size % BLOCK)) != -size % BLOCK:
             raise Problem(400, BROKEN)
     if len(head) < BLOCK:
@@ -75,25 +75,25 @@ async def files_of_tar(source: Source) -> AsyncGenerator[Coming, None]:
 
 
 def counting(fields: dict[str, bytes]) -> dict[str, bytes]:
-    """What counts here of the fields of a file. No others are kept: a tar may have headers without end, and no file."""
+    """Returns the fields that are used here. No others are kept, as a tar may have endless headers and no file."""
     found = {name: fields[name] for name in ("path", "size") if name in fields}
     return found | ({SPARSE: b""} if any(name.startswith(SPARSE) for name in fields) else {})
 
 
 def is_sum(head: bytes) -> bool:
-    """Whether the sum in a header is that of its bytes."""
+    """Whether a header's checksum is right, with its bytes taken as unsigned or as signed."""
     text, blank = head[148:156].strip(b" \0"), head[:148] + 8 * b" " + head[156:]
     return bool(re.fullmatch(b"[0-7]{1,7}", text)) and int(text, 8) in (sum(blank), sum(array.array("b", blank)))
 
 
 def name_in(head: bytes) -> bytes:
-    """The name that a header itself has."""
+    """Returns the name in a header itself, with the prefix that ustar may have for it."""
     name, prefix = (text.partition(b"\0")[0] for text in (head[:100], head[345:500]))
     return prefix + b"/" + name if head[257:263] == b"ustar\0" and prefix else name
 
 
 def number_of(text: bytes) -> int:
-    """A length in octal digits, or as GNU writes long ones."""
+    """Returns a length that is written in octal digits, or in binary, as GNU does for long files; else raises 400."""
     if text[:1] == b"\x80":
         return int.from_bytes(text[1:], "big")
     text = text.strip(b" \0")
@@ -109,7 +109,7 @@ def decimal(text: bytes) -> int:
 
 
 def fields_of(text: bytes) -> dict[str, bytes]:
-    """The fields of a pax header, each of which begins with its length."""
+    """Returns the fields of a pax header, each of which begins with its length; raises 400 if one is malformed."""
     found, start = dict[str, bytes](), 0
     while start < len(text):
         size, end = text[start : start + 8].partition(b" ")[0], start  # noqa: E203
@@ -123,7 +123,7 @@ def fields_of(text: bytes) -> dict[str, bytes]:
 
 
 async def files_of_form(kind: str, source: Source) -> AsyncGenerator[Coming, None]:
-    """The files of a form."""
+    """Yields the files of a form; raises 400 for a part without a file name."""
     async for sent in files_of(kind, source, ASKED):
         if not sent.name:
             raise Problem(400, f"a part of the form is no file: {ASKED}")

@@ -1,4 +1,4 @@
-"""The live blobs of a ledger, in SQLite: who registered them, and which shards acknowledged them or attested."""
+"""The live blobs of a ledger, in SQLite: who registered them, and which shards acknowledged or attested them."""
 import collections
 import contextlib
 import dataclasses
@@ -110,8 +110,8 @@ def ending_of(name: str, *words: object) -> list[bytes]:
 class Blobs(Mapping[bytes, Blob]):
     """Blobs in a database, in the order in which they were registered, some of them also in memory. Changes are written
     to the database when another query needs them. `needed` is the number of shards in a quorum, and `number` that of
-    the last blob. A blob that is kept until `epoch` or less is over: this mapping no longer has it, and its row is
-    deleted later, so that an epoch change costs the same however many blobs end with it."""
+    the last blob. A blob that is kept until `epoch` or less is *over*, or expired: this mapping no longer has it, and
+    its row is deleted later, so that an epoch change costs the same however many blobs end with it."""
 
     needed, epoch, number = 1, 0, 0
 

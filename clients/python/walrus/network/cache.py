@@ -1,5 +1,5 @@
-"""Blobs that were read and checked, kept while there is room: many who want one at once cause one reading. Small ones
-are in memory, and others in files without a name, so that who takes them slowly holds no memory."""
+"""Caches blobs that were read and checked. Many requests for one blob at once cause one read. Small blobs are in
+memory, others in files without a name, so that a client that reads slowly holds no memory."""
 import asyncio
 import collections
 import contextlib
@@ -13,14 +13,14 @@ from .pieces import is_away
 LEAST, TIMES = (
     8_388_608,
     64,
-)  # of the room: what a file takes at least; how much more a byte in memory takes than in one
-EXTRA = TIMES * 1_024  # of the room: what an entry takes beside its blob, as it is in memory
-LASTING = client.BadlyEncoded, client.NoBundle  # what is known of a blob once it was read
+)  # how blobs count towards the room: the least for one in a file; the factor for bytes in memory
+EXTRA = TIMES * 1_024  # what an entry counts for beside its blob, as it is in memory
+LASTING = client.BadlyEncoded, client.NoBundle  # faults of the blob itself, which stay
 
 
 @dataclasses.dataclass(eq=False)
 class Entry:
-    """A blob that is read or was read, the bytes that it may take, and how many use it just now."""
+    """A blob that was read or is being read, the bytes that it counts for, and the number of its users just now."""
 
     task: "asyncio.Task[bytes]"
     size: int = client.LARGEST_BLOB + EXTRA
@@ -28,7 +28,7 @@ class Entry:
 
 
 class Cache:
-    """Blobs by identifier, of `room` bytes together with what is being read and what is being sent."""
+    """Blobs by identifier, within `room` bytes, in which those being read and those being sent count too."""
 
     def __init__(self, read: Callable[[bytes, int], Awaitable[bytes]], room: int, turns: int):
         self.read, self.room = read, max(room, client.LARGEST_BLOB + EXTRA)
@@ -39,8 +39,8 @@ class Cache:
 
     @contextlib.asynccontextmanager
     async def use(self, identifier: bytes, size: int = 0) -> AsyncIterator[bytes]:
-        """A blob, which stays while it is used; it is said to have this size, if somebody says one. Raises what reading
-        it raises."""
+        """Yields a blob, which stays in the cache while it is used. `size` is its expected size, 0 if none is known.
+        Raises what reading the blob raises."""
         while not (entry := self.find(identifier, size)):
             self.freed.clear()
             await self.freed.wait()
@@ -56,7 +56,7 @@ class Cache:
             self.freed.set()
 
     def find(self, identifier: bytes, size: int = 0) -> "Entry | None":
-        """The entry of a blob, begun where there is none; nothing where there is no room for it."""
+        """Returns the entry of a blob, and begins to read it if there is none; None if there is no room for it."""
         entry = self.entries.get(identifier)
         if entry:
             self.hits += 1
@@ -68,7 +68,8 @@ class Cache:
         return entry
 
     def make_room(self) -> bool:
-        """Drops what was not wanted for longest, and is not used, until the largest blob has room."""
+        """Drops unused entries, the least recently wanted first, until the largest blob has room. Returns whether it
+        has."""
         while self.size + client.LARGEST_BLOB + EXTRA > self.room:
             unused = next((it for it, entry in self.entries.items() if entry.task.done() and not entry.users), None)
             if unused is None:
@@ -90,7 +91,7 @@ class Cache:
         self.size -= entry.size
         if task.cancelled() or fault and not isinstance(fault, LASTING):
             del self.entries[identifier]
-        else:  # it is there, or no blob, which stays so
+        else:  # it was read, or has a fault that stays
             entry.size = EXTRA + (0 if fault else cost_of(task.result()))
             self.size += entry.size
         self.freed.set()
@@ -102,11 +103,11 @@ class Cache:
 
 
 def cost_of(blob: bytes) -> int:
-    """The room that a blob takes."""
+    """Returns the bytes that a blob counts for in the room."""
     return max(LEAST, len(blob)) if is_away(blob) else min(TIMES * len(blob), client.LARGEST_BLOB)
 
 
 def afresh(fault: client.Refused) -> client.Refused:
-    """The same fault without the calls that it came through, and what each shard had said: with one that is kept they
-    would stay, and all that was read."""
+    """Returns a fault like this one, but without its traceback and what each shard said: if they were kept with it, all
+    that was read would stay in memory."""
     return type(fault)(fault.status, fault.text, {}, fault.code)

@@ -1,4 +1,4 @@
-"""Files whose identifiers are computed here, by the program walrus, and written only once they are those asked for."""
+"""Computes the identifiers of files with the program walrus, and writes a file only if it has the one asked for."""
 import contextlib
 import errno
 import os
@@ -13,14 +13,14 @@ from .chunks import MARK, NAME, PIECE, File
 
 
 class Naming:
-    """Computes the identifier of a file that comes in parts, a piece at a time, in a format."""
+    """Computes the identifier of a file that comes in parts, piece by piece, in one of the two formats."""
 
     def __init__(self, walrus: client.Walrus, faults: int, form: int = 1):
         self.walrus, self.faults, self.form = walrus, faults, form
         self.kept, self.names, self.size, self.first = bytearray(), b"", 0, b""
 
     async def name(self, blob: client.Data) -> bytes:
-        """The identifier of a blob."""
+        """Returns the identifier of a blob."""
         return bytes.fromhex((await self.walrus.output("id", self.faults, "--format", self.form, data=blob)).decode())
 
     async def add(self, part: bytes) -> None:
@@ -33,25 +33,25 @@ class Naming:
         self.kept += view
 
     async def add_piece(self, piece: bytearray) -> None:
-        """Names a piece. The program is given it through a pipe, before which asyncio has it once more."""
+        """Computes the identifier of a piece. While it goes to the program's pipe, asyncio has another copy of it."""
         self.first = self.first or bytes(piece[: len(MARK)])
         self.names += await self.name(piece)
 
     async def identifiers(self) -> list[bytes]:
-        """The identifiers that name the file, which has ended: that of its list first, where a gateway makes one."""
+        """Ends the file, and returns the identifiers that name it: that of its list first, if a gateway makes one."""
         last = self.kept
         await self.add_piece(last)
         if len(self.names) == NAME and self.first != MARK:
             return [self.names]
         names = [await self.name(File(self.size, self.names).listed())]
         if len(self.names) == NAME and File.of(self.names, last).names == self.names:
-            names.append(self.names)  # it begins as a list does, but is none: who stored it may have made no list
+            names.append(self.names)  # it has the mark, but is no list: it may be stored without one
         return names
 
 
 async def is_named(file: IO[bytes], identifier: bytes, naming: Naming) -> bool:
-    """Whether an identifier names a file, all of which `naming` was given; in another format the file is read again. It
-    may be that of a list of one piece, which no gateway makes of most files, but anybody else may."""
+    """Whether an identifier names a file, all of which `naming` was given; for the other format the file is read again.
+    It may be that of a list of one piece: a gateway makes none for most files, but anybody else may."""
     if identifier in await naming.identifiers():
         return True
     file.seek(0)
@@ -67,10 +67,10 @@ async def is_named(file: IO[bytes], identifier: bytes, naming: Naming) -> bool:
 
 @contextlib.contextmanager
 def written_whole(output: str, identifier: str = "") -> Iterator[IO[bytes]]:
-    """A file beside the one at a path, which takes its place at the end and is dropped if anything goes wrong. Of what
-    an identifier names the file begins with what came before, and what has come is left for the next time.
+    """Yields a file beside the one at a path, which takes its place at the end, or is deleted if anything fails. With
+    an identifier, it begins with what an earlier fetch left, and leaves what has come for the next one.
 
-    What goes to standard output (-), or to what is no ordinary file, is kept in a temporary file until then."""
+    For standard output (-), or what is no regular file, a temporary file is copied there at the end."""
     target: Optional[str] = None if output == "-" else os.path.realpath(output)
     beside = target if target and (os.path.isfile(target) or not os.path.exists(target)) else None
     folder, name = os.path.split(beside or "")
@@ -96,11 +96,11 @@ def written_whole(output: str, identifier: str = "") -> Iterator[IO[bytes]]:
                     shutil.copyfileobj(file, out)
         finally:
             if not is_left:
-                partial.remove(file)  # while it is locked, and never what has its name by now
+                partial.remove(file)  # while it is locked, and never another file that has its name by now
 
 
 def mode_of(path: str) -> int:
-    """The mode of a file, or that of a new one."""
+    """Returns the mode of a file, or that of a new one if there is none."""
     if os.path.exists(path):
         return os.stat(path).st_mode & 0o777
     mask = os.umask(0)
@@ -110,7 +110,7 @@ def mode_of(path: str) -> int:
 
 @contextlib.contextmanager
 def readable() -> Iterator[None]:
-    """Has what is written be for all to read, as services are users of their own; keys have a mode of their own."""
+    """Lets everybody read what is written meanwhile, as services have users of their own; keys have their own mode."""
     before = os.umask(0o022)
     try:
         yield

@@ -1,4 +1,4 @@
-"""What is wrong with a file of settings and with what it names, in words, before a service is started over it."""
+"""Checks of a file of settings and of the files that it names, before a service is started with it."""
 import os
 import pathlib
 import re
@@ -13,11 +13,11 @@ from .settings import GatewaySettings, RecorderSettings, Settings
 
 KINDS: tuple[type[Role], ...] = (Settings, RecorderSettings, GatewaySettings)
 ROLES = {it.role: it for it in KINDS}
-SOON = 30.0  # days before the end of a certificate in which that is told
+SOON = 30.0  # days before a certificate expires in which a warning is given
 
 
 def check(path: pathlib.Path) -> tuple[str, list[str], list[str]]:
-    """The role of a file, what is wrong with it, and what is not wrong yet."""
+    """Return the role of a file, its faults, and warnings, such as of a certificate that expires soon."""
     try:
         values = values_of(path)
     except (Wrong, OSError) as fault:
@@ -41,7 +41,7 @@ def check(path: pathlib.Path) -> tuple[str, list[str], list[str]]:
 
 
 def ends_soon(path: pathlib.Path) -> str:
-    """That a certificate has not long to go."""
+    """Return a warning if a certificate expires within `SOON` days, else an empty text."""
     try:
         found = certificates.read(path)
     except (OSError, ValueError):
@@ -51,11 +51,11 @@ def ends_soon(path: pathlib.Path) -> str:
 
 
 def faults_of_places(told: dict[str, Any]) -> list[str]:
-    """What is wrong with where others are, and where this one is."""
+    """Return the faults of the addresses of recorders, of this service, and of the node's name as a host name."""
     places = [*told.get("recorders", []), *filter(None, [told.get("announced")])]
     faults = [f"{it} is not HOST:PORT" for it in places if not re.fullmatch(r"(\[[0-9A-Fa-f:.]+\]|[^:]+):\d{1,5}", it)]
     faults += ["recorders is empty"] if told.get("recorders") == [] else []
-    faults += [f"port {told['port']} is none"] if not 0 <= told.get("port", 0) < 65_536 else []
+    faults += [f"port {told['port']} is not from 0 to 65535"] if not 0 <= told.get("port", 0) < 65_536 else []
     if not re.fullmatch(r"(.*:)?\d{1,5}|", told.get("metrics", "")):
         faults.append(f"metrics {told['metrics']} is no PORT, and not HOST:PORT")
     if "database" in told and told.get("host") == "" == told.get("announced", ""):
@@ -68,27 +68,27 @@ def faults_of_places(told: dict[str, Any]) -> list[str]:
 
 
 def faults_of_files(told: dict[str, Any]) -> list[str]:
-    """What is wrong with the program, and with where a service keeps its own."""
+    """Return the faults of the program, and of the folders of a service's own files."""
     faults = []
     if "program" in told and not os.access(told["program"], os.X_OK):
         faults.append(f"program: {told['program']} is not there, or cannot be run")
     for name in ("database", "state"):
         if name in told:
             own = pathlib.Path(told[name])
-            kept = next(it for it in own.parents if it.exists())  # systemd makes what is not there yet
+            kept = next(it for it in own.parents if it.exists())  # systemd makes folders that are missing
             if not os.access(kept, os.W_OK) or not kept.is_dir():
-                faults.append(f"{name}: {kept} takes no files")
+                faults.append(f"{name}: {kept} is not a folder that can be written to")
     return faults
 
 
 def faults_of_keys(told: dict[str, Any]) -> list[str]:
-    """Which keys anyone on this machine may read, as they come from a stick that keeps no modes."""
+    """Return which keys anyone on this machine may read, such as after a copy from a stick that keeps no modes."""
     keys = [pathlib.Path(told[it]) for it in ("key", "etcd_key", "tls_key") if told.get(it)]
     return [f"anyone on this machine may read {it}: chmod 600 {it}" for it in keys if is_open(it)]
 
 
 def faults_of_https(told: dict[str, Any]) -> list[str]:
-    """What is wrong with the certificate for HTTPS and its key, which authorities of others have signed."""
+    """Return the faults of the certificate for HTTPS and its key. Its signature is not checked, as others sign it."""
     names = [told[it] for it in ("tls_certificate", "tls_key") if told.get(it)]
     if len(names) < 2:
         return ["tls_certificate and tls_key go together"] if names else []
@@ -105,8 +105,8 @@ def faults_of_https(told: dict[str, Any]) -> list[str]:
 
 
 def is_open(path: pathlib.Path) -> bool:
-    """Whether others than the owner of a file and its group may use it."""
+    """Return whether users other than the owner of a file and its group may use it."""
     try:
         return bool(path.stat().st_mode & stat.S_IRWXO)
-    except OSError:  # that it is not there is told elsewhere
+    except OSError:  # a missing file is reported elsewhere
         return False

@@ -33,7 +33,7 @@ class Mark(NamedTuple):
 
 
 def parted(lines: Iterable[bytes], most: int) -> Iterator[bytes]:
-    """Joins lines to parts of at most `most` bytes each; a longer line is a part of its own."""
+    """Joins lines into parts of at most `most` bytes each; a longer line is a part of its own."""
     part, size = list[bytes](), 0
     for line in lines:
         if part and size + len(line) > most:

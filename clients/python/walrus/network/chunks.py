@@ -1,8 +1,8 @@
-"""Files of any length over blobs of at most 16 MiB: a longer one is split, and the list of its pieces is a blob too.
+"""Files of any length as blobs of at most 16 MiB: a longer file is split, and the list of its pieces is a blob too.
 
 A list is the mark, the file's length (u64, big-endian), and the identifiers of the pieces, each of 16 MiB but the last.
-A blob that reads so is a list; a file that begins with the mark is stored as a list of one piece, so that it is not
-taken for one."""
+Every blob of this form is a list. A file that itself begins with the mark is stored as a list of one piece, so that it
+is not mistaken for a list."""
 import asyncio
 import contextlib
 import dataclasses
@@ -24,27 +24,28 @@ from .turns import ASKING
 
 PIECE = client.LARGEST_BLOB
 AHEAD = 3  # pieces of one file that are encoded or certified at once
-SLICE = 1_000  # certificates that are looked up at once
+SLICE = 1_000  # certificates that are looked up before other tasks run
 HEAD = struct.Struct(">16sQ")
 MARK, NAME = b"\x00walrus list \x00\x00\x01", 32
 MOST_PIECES = (PIECE - HEAD.size) // NAME
 LONGEST = MOST_PIECES * PIECE
 ASKED = "send the files as multipart/form-data, as curl -F a=@FILE -F b=@FILE does"
 UNFIT = "the files do not fit: each fills whole columns of a bundle, which has 16 MiB; store some of them alone"
-Told = dict[str, Any]  # what a publisher is told, as JSON
+Told = dict[str, Any]  # the JSON of an answer to a publisher
 
 
 @dataclasses.dataclass(frozen=True)
 class File:
-    """A file's length, and the names of what it consists of, one behind the other: identifiers of blobs, or else one
-    name alone, which may be that of a bundle's member: behind the bundle's identifier its number."""
+    """A file's length, and the identifiers of its pieces, concatenated. A file that is one blob has one name alone: an
+    identifier, or that of a bundle's member, which is the bundle's identifier followed by the member's number."""
 
     length: int
-    names: Union[bytes, memoryview]  # of a list a view of its blob, so that many who read it have it once
+    names: Union[bytes, memoryview]  # for a list a view of its blob, so that its readers share one copy
 
     @classmethod
     def of(cls, identifier: bytes, blob: bytes) -> "File":
-        """The file that a blob's identifier names: what it lists, or else the blob itself, as a member always is."""
+        """Returns the file that a blob's name stands for: what the blob lists, or else the blob itself. A bundle's
+        member is never a list."""
         if len(identifier) == NAME and len(blob) > HEAD.size and not (len(blob) - HEAD.size) % NAME:
             mark, length = HEAD.unpack_from(blob)
             if mark == MARK and 0 < length <= LONGEST and (length - 1) // PIECE == (len(blob) - HEAD.size) // NAME - 1:
@@ -52,7 +53,7 @@ class File:
         return cls(len(blob), identifier)
 
     def pieces(self, start: int, end: int) -> Iterator[tuple[bytes, int, int, int]]:
-        """For each blob that a span touches its identifier, its length, and the span of the blob."""
+        """Yields for each blob that a span of the file touches its identifier, its length, and the span within it."""
         for number in range(start // PIECE, (end - 1) // PIECE + 1 if start < end else 0):
             before = number * PIECE
             size = min(PIECE, self.length - before)
@@ -64,16 +65,16 @@ class File:
 
 
 class Writer:
-    """Stores files in a network: so many blobs are encoded at once for all of them, as far as memory goes. `reserve` is
-    the part of the disk that what comes leaves free."""
+    """Stores files in a network. Of all files together, `turns` blobs are encoded at once if memory allows. `reserve`
+    is the fraction of the disk that stays free while files arrive."""
 
     def __init__(self, network: Network, memory: Memory, turns: int, reserve: float = 0.0):
         self.network, self.memory, self.turns, self.reserve = network, memory, Fair(turns), reserve
-        self.giving = set["asyncio.Task[None]"]()  # memory back, where nodes are left behind
+        self.giving = set["asyncio.Task[None]"]()  # memory back, once late nodes do not need it any more
 
     async def store(self, stream: AsyncIterator[bytes], epochs: int, stored: Optional[list[bytes]] = None) -> Told:
-        """Stores a file for so many epochs, and tells what came of it. Of its pieces one comes while one is encoded and
-        others are certified; where it fails, those that are certified come to `stored`."""
+        """Stores a file for a number of epochs, and returns the JSON of the answer. One piece arrives while one is
+        encoded and others are certified. Whether or not all succeed, those that are certified are added to `stored`."""
         ledger = self.network.ledger
         until, size, first = min(ledger.writing_epoch + epochs, LAST_UNTIL), 0, b""
         stored = [] if stored is None else stored
@@ -101,11 +102,12 @@ class Writer:
         return told | {"alreadyCertified": all(before for _, before in done)}
 
     async def kept(self, names: Iterable[bytes]) -> Told:
-        """The first epoch in which one of these blobs is not kept, and the certificate of the last one."""
+        """Returns the first epoch in which one of these blobs is not kept, and the certificate of the last one. Raises
+        `client.Failed` if one has none any more."""
         ledger, found, end = self.network.ledger, (0, 0), LAST_UNTIL
         for place, name in enumerate(names):
             if place % SLICE == 0:
-                await asyncio.sleep(0)  # others go on meanwhile
+                await asyncio.sleep(0)  # other tasks run
             if not (certificate := ledger.certificate(name)):
                 raise client.Failed("its time ended while it was stored: store it for more epochs", {})
             found, end = certificate, min(end, ledger.blobs[name].until)
@@ -119,8 +121,8 @@ class Writer:
         epochs: int,
         stored: Optional[list[bytes]] = None,
     ) -> Told:
-        """Stores the files of a form of this media type as one bundle, which is no longer than a piece, once its length
-        was counted."""
+        """Stores the files of a form of media type `kind` as one bundle, which is no longer than a piece. `count` is
+        called with its length first, and may refuse it."""
         bundle, members = await self.bundle(*await self.gather(kind, stream))
         count(len(bundle))
 
@@ -131,12 +133,12 @@ class Writer:
         return told | {"members": [{"id": f"{told['blobId']}/{it}", **member} for it, member in enumerate(members)]}
 
     async def gather(self, kind: str, stream: AsyncIterator[bytes]) -> tuple[bytes, list[Told]]:
-        """The files of a form, one behind the other in a file without a name, and what is told of each."""
+        """Returns the files of a form, concatenated (in a file without a name, if long), and what to tell of each."""
         most, spool, members = 2 * self.network.ledger.faults, pieces.Spool(self.reserve), list[Told]()
         try:
             async for sent in files_of(kind, Source(stream), ASKED):
                 if len(members) == most:
-                    raise Problem(413, f"a bundle has at most {most} files here: send the others in further ones")
+                    raise Problem(413, f"a bundle has at most {most} files here: send the rest in further bundles")
                 before = spool.end
                 async for part in sent.parts:
                     await spool.add(part)
@@ -148,7 +150,7 @@ class Writer:
             spool.close()
 
     async def bundle(self, data: bytes, members: list[Told]) -> tuple[bytes, list[Told]]:
-        """The bundle of these files, in a file without a name."""
+        """Returns the bundle of these files, as a mapped file without a name, and `members` unchanged."""
         faults, ends = self.network.ledger.faults, itertools.accumulate(it["size"] for it in members)
         files = [memoryview(data)[end - it["size"] : end] for end, it in zip(ends, members)]  # noqa: E203
         async with self.memory.share(pieces.need_of(len(data), faults)):
@@ -160,8 +162,8 @@ class Writer:
             return await pieces.in_thread(pieces.put_away, made), members
 
     async def store_blob(self, blob: bytes, until: int) -> tuple[bytes, bool]:
-        """Stores a blob; its identifier, and whether it was there before. Its memory is given back once no node is left
-        behind with it."""
+        """Stores a blob. Returns its identifier, and whether it was certified for as long before. Its memory is given
+        back once no late node needs it."""
         stack, identifier, faults = contextlib.AsyncExitStack(), b"", self.network.ledger.faults
         share = await stack.enter_async_context(self.memory.share(pieces.need_of(len(blob), faults)))
         try:
@@ -180,7 +182,7 @@ class Writer:
                 await stack.aclose()
 
     async def store_encoded(self, encoded: client.Encoded, until: int) -> bool:
-        """Stores an encoded blob; whether it was there before."""
+        """Stores an encoded blob. Returns whether it was certified for as long before."""
         network, ledger, identifier = self.network, self.network.ledger, encoded.identifier
         found = ledger.blobs.get(identifier) if ledger.certificate(identifier) else None
         if found and found.until >= until:
@@ -189,7 +191,7 @@ class Writer:
         return False
 
     async def give_back(self, late: Sequence["asyncio.Task[Any]"], stack: contextlib.AsyncExitStack) -> None:
-        """Gives memory back once no node is left behind with a blob, or others have waited for it."""
+        """Gives memory back once no late node needs a blob, or others have waited for the memory."""
         async with stack:
             self.memory.late |= {*late}
             try:

@@ -1,4 +1,4 @@
-"""A publisher and reader of a network: registers in the ledger, stores at nodes, and reads what verifies."""
+"""A client of a network: registers blobs in the ledger, stores them at nodes, and reads and verifies them."""
 import asyncio
 import collections
 import json
@@ -16,15 +16,15 @@ from .state import State
 from .whole import request_of
 
 Result = TypeVar("Result")
-GRACE, LATE = 0.1, 10.0  # seconds that nodes beyond 2f+1 have at least, and those that are behind at most
-BEHIND = 16_777_216  # bytes that a node may be behind with, or one blob
-FEW = 3  # faults up to which a short call of the program takes less than another thread needs to begin, or little more
-# A certified blob: its name, the epoch and the number of shards of its certificate, and until when it is kept.
+GRACE, LATE = 0.1, 10.0  # least seconds for slower nodes once a blob is certified; most seconds for those left behind
+BEHIND = 16_777_216  # bytes that may be under way to a node that is left behind; or one blob of any length
+FEW = 3  # faults up to which a short call of the program takes little longer than starting a thread for it
+# A certified blob: its identifier, the epoch and number of shards of its certificate, and until when it is kept.
 Stored = NamedTuple("Stored", [("identifier", bytes), ("epoch", int), ("count", int), ("until", int)])
 
 
 class Away(client.Failed):
-    """What was asked did not come about, and the ledger is or was away meanwhile; `said` as shards said it."""
+    """A failure while the ledger is, or was meanwhile, away. `said` has what shards answered, by number."""
 
     def __init__(self, text: str, said: dict[int, str]) -> None:
         super().__init__(text, {})
@@ -32,7 +32,7 @@ class Away(client.Failed):
 
 
 class Access(NamedTuple):
-    """How a user reaches a network; `state` is a file for what is heard of the ledger."""
+    """How a user reaches a network; `state` is the file that keeps the state of the ledger."""
 
     user: str
     program: str
@@ -44,7 +44,7 @@ class Access(NamedTuple):
 
     @classmethod
     def within(cls, folder: pathlib.Path, user: str) -> "Access":
-        """As a folder has it: of a network, or of one user."""
+        """Reads it from a folder of a whole network (`users/USER.crt`) or of one user (`USER.crt`)."""
         told, own = json.loads((folder / "network.json").read_text()), folder / "users" / user
         own = own if pathlib.Path(f"{own}.crt").exists() else folder / user
         files = (f"{own}.{kind}" for kind in ("crt", "key", "ledger"))
@@ -52,7 +52,8 @@ class Access(NamedTuple):
 
 
 class Network(View):
-    """A user of a network."""
+    """A user's view of a network, which follows the ledger while its context runs. A shard must answer in `seconds`;
+    with `kept` the state of the ledger is kept in a file."""
 
     def __init__(
         self, folder: Union[pathlib.Path, Access], user: str = "publisher", seconds: float = 10, kept: bool = False
@@ -73,9 +74,9 @@ class Network(View):
     async def __aenter__(self) -> "Network":
         self.task = asyncio.create_task(self.follow())
         heard = await self.until(lambda _: self.caught_up, 20)
-        while not heard and self.state.entering:  # a checkpoint, which may take long
+        while not heard and self.state.entering:  # loading a checkpoint may take long
             heard = await self.until(lambda _: self.caught_up, 20)
-        if not heard and not (self.chain and await self.until(lambda _: self.caught_up, 60)):  # there is much to hear
+        if not heard and not (self.chain and await self.until(lambda _: self.caught_up, 60)):  # much may be missing
             await self.__aexit__()
             raise Unreachable(f"no recorder tells the ledger: {self.recorders.said}")
         return self
@@ -93,15 +94,15 @@ class Network(View):
         self.state.close()
 
     async def begin(self, faults: int, owners: list[str], epoch: Optional[int] = None) -> None:
-        """Posts the committee of an epoch, or of the next one: the nodes of its shards, and that one has more than f of
-        them if it does. Only the operator's word counts."""
+        """Posts the committee of an epoch, by default the next one: `owners` are the nodes of its shards. If a node has
+        more than f shards, it posts first that this is intended. The entries count only if the operator posts them."""
         epoch = self.ledger.epoch + bool(self.ledger.now) if epoch is None else epoch
         if max(collections.Counter(owners).values()) > faults:
             await self.recorders.post(entry_key(self.user, "concentrated", epoch))
         await self.recorders.post(entry_key(self.user, "begin", epoch, faults, ",".join(owners)))
 
     async def register(self, identifier: bytes, until: int) -> None:
-        """Registers a blob until an epoch, and waits until the ledger shows it."""
+        """Registers a blob until an epoch, and waits until the ledger shows it. Raises `client.Failed` otherwise."""
         begun = time.monotonic()
         await self.recorders.post(entry_key(self.user, "register", identifier.hex(), until))
         if not await self.until(lambda it: identifier in it.blobs and it.blobs[identifier].until >= until):
@@ -109,18 +110,18 @@ class Network(View):
             raise self.failed(f"no registration until {until}: {causes}", {}, begun)
 
     def failed(self, text: str, said: dict[int, str], begun: float) -> client.Failed:
-        """What kept something that began then: the ledger where it was away meanwhile, else what is told."""
+        """Returns the error for a step that began at `begun`: `Away` if the ledger was away since, else `Failed`."""
         away = self.away_since(begun)
         return Away(f"{away}, and so it is not done", said) if away else client.Failed(text, said)
 
     async def store(self, blob: bytes, epochs: int = 1, form: int = 1) -> Stored:
-        """Stores a blob for so many epochs from the writing one on; returns once it is certified."""
+        """Encodes and stores a blob for `epochs` epochs from the writing one on; returns once it is certified."""
         encoded = await self.walrus.encode(blob, self.ledger.faults, form)
         return await self.publish(encoded, self.ledger.writing_epoch + epochs)
 
     async def publish(self, encoded: client.Encoded, until: int) -> Stored:
-        """Registers and stores an encoded blob at the shards of the writing committee, and returns once it is certified
-        and slower nodes had a short grace; they go on behind it. Raises `client.Failed`."""
+        """Registers an encoded blob, stores it at the shards of the writing committee, and returns once it is certified
+        and slower nodes had a short grace; transfers to them continue afterwards. Raises `client.Failed`."""
         identifier, said, begun = encoded.identifier, dict[int, str](), time.monotonic()
         for attempt in range(3):
             epoch = self.ledger.writing_epoch
@@ -140,7 +141,7 @@ class Network(View):
         raise self.failed(f"{identifier.hex()} is not certified", said, begun)
 
     async def registered(self, identifier: bytes, until: int, done: asyncio.Event) -> None:
-        """Registers a blob, if it is not for as long."""
+        """Registers a blob unless it is registered until then already; sets `done` at the end."""
         blob = self.ledger.blobs.get(identifier)
         if blob is None or blob.until < until:
             await self.register(identifier, until)
@@ -148,7 +149,7 @@ class Network(View):
 
     @staticmethod
     async def both(first: Coroutine[Any, Any, None], second: Coroutine[Any, Any, Result]) -> Result:
-        """What the second gives, which goes on beside the first, and ends with it where that fails."""
+        """Runs both at once and returns the second's result; if the first fails, the second is cancelled."""
         task = asyncio.create_task(second)
         try:
             await first
@@ -164,8 +165,8 @@ class Network(View):
         is_over: Callable[[Ledger], bool],
         registered: asyncio.Event,
     ) -> dict[int, str]:
-        """Stores a blob at these shards until all have answered, or it is over and those that were not late before had
-        as long again as the others took; what each of them said that would not do. Who is late goes on alone."""
+        """Stores a blob at these shards until all have answered, or until `is_over` and nodes that are not behind had
+        as much time again. Returns by shard why it is not stored, or an empty text. Slower transfers continue alone."""
         tasks, said, begun = dict[str, "asyncio.Task[dict[int, str]]"](), dict[int, str](), time.monotonic()
         size = sum(map(len, (encoded.metadata, *encoded.slivers[0])))
         for name in dict.fromkeys(seat.name for seat in seats):
@@ -179,7 +180,7 @@ class Network(View):
         try:
             await asyncio.wait(ends, return_when=asyncio.FIRST_COMPLETED)
             if over.done():
-                over.result()  # which raises where the ledger is not followed
+                over.result()  # raises if the ledger is not followed any more
             if prompt := [task for name, task in tasks.items() if not (task.done() or self.behind[name])]:
                 await asyncio.wait(prompt, timeout=max(GRACE, time.monotonic() - begun))
             for name, task in tasks.items():
@@ -188,7 +189,7 @@ class Network(View):
                 else:
                     self.leave_behind(name, task, size)
             return said
-        except BaseException:  # nobody waits for it any more, the ledger is not followed, or one has failed
+        except BaseException:  # the caller was cancelled, the ledger is not followed any more, or a task has failed
             for task in tasks.values():
                 task.cancel()
             raise
@@ -196,15 +197,16 @@ class Network(View):
             over.cancel()
 
     async def put_at(self, seats: Sequence[Seat], encoded: client.Encoded, registered: asyncio.Event) -> dict[int, str]:
-        """Stores a blob at the shards of one node; what of it would not do, by shard."""
+        """Stores a blob at the shards of one node in turn. Returns by shard why it is not stored, or an empty text."""
         name, said = seats[0].name, dict[int, str]()
-        await self.until(lambda it: name in it.addresses, LATE)  # it has perhaps just come
+        await self.until(lambda it: name in it.addresses, LATE)  # the node may have just started
         for seat in seats:
             said[seat.number] = await seat.store(request_of(encoded, seat.number), registered)
         return said
 
     def leave_behind(self, name: str, task: "asyncio.Task[dict[int, str]]", size: int) -> None:
-        """Lets a node go on with so many bytes of a blob that is stored, but not for long: it mends what it lacks."""
+        """Lets the transfer of a stored blob to a slow node continue, for `LATE` seconds at most: the node recovers
+        what it lacks by itself."""
 
         def arrived(_: object) -> None:
             self.late.discard(task)
@@ -216,14 +218,14 @@ class Network(View):
         asyncio.get_running_loop().call_later(LATE, task.cancel)
 
     def left(self, identifier: bytes) -> "list[asyncio.Task[dict[int, str]]]":
-        """What goes on to nodes that are left behind with a blob."""
+        """Returns the transfers of a blob that continue to nodes left behind."""
         return [task for task in self.late if task.get_name() == identifier.hex()]
 
     async def fetch(
         self, identifier: bytes, seconds: float = 30, member: Optional[int] = None, calls: Optional[Calls] = None
     ) -> bytes:
-        """The bytes of a blob, or of a member of a bundle, which is read from its columns; asks again while the blob is
-        live and too little is heard. Raises `client.Refused`."""
+        """Returns the bytes of a blob, or of a member of a bundle, which is read from its columns. Asks again for
+        `seconds` while the blob is live and too little is heard. Raises `client.Refused`."""
         loop, ledger, walrus = asyncio.get_running_loop(), self.ledger, calls or self.walrus
         end, pause = loop.time() + seconds, 0.1
         while True:

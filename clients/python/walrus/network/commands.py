@@ -1,4 +1,4 @@
-"""walrus-net: files in and out of a network through its gateway, and the few things that an operator does."""
+"""walrus-net: stores and fetches files through the gateway of a network, and has the commands of its operators."""
 import argparse
 import json
 import os
@@ -19,8 +19,8 @@ from .transfers import PATIENCE, Failure, ask, listed, store_bundle
 from .trees import store_folder
 
 URL = "http://127.0.0.1:31415"
-STATUSES = """exit status: 0 done; 1 it could not be done; 2 these words ask for nothing; 3 the blob was badly
-encoded, or a challenge was not met; 4 there is no such blob, or too little of it is heard just now; 130 interrupted"""
+STATUSES = """exit status: 0 done; 1 it could not be done; 2 wrong arguments; 3 the blob was badly encoded, or a
+challenge was not met; 4 there is no such blob, or too few shards answer just now; 130 interrupted"""
 COMPLETION = """_walrus_net() {
     local word=${COMP_WORDS[COMP_CWORD]} words='store fetch list expiring extend status challenge'
     words="$words handover share expel restore scrub calendar found begin add renew remove check"
@@ -46,7 +46,7 @@ def tell_blob(told: dict[str, Any]) -> str:
 
 
 def tell_figures(told: dict[str, dict[str, float]]) -> list[str]:
-    """What a node holds, and what it is at, in words."""
+    """Returns in words what a node holds, and what it is doing."""
     held, disk, mended, scrub = (told.get(it, {}) for it in ("held", "disk", "recovered", "scrub"))
     sizes = {it: parts.get("bytes", 0) / 1e6 for it, parts in told.items()}
     words = [f"holds {sizes['held']:.1f} MB"] if held else []
@@ -78,7 +78,7 @@ def tell_status(told: dict[str, Any]) -> str:
 
 
 async def remotely(words: argparse.Namespace, session: aiohttp.ClientSession) -> int:
-    """Does a command that a gateway answers."""
+    """Runs a command that a gateway answers, and returns the exit status."""
     if words.command == "fetch":
         told = await fetch_any(session, words.id, words.output, words.only)
         if words.json:
@@ -115,7 +115,7 @@ async def remotely(words: argparse.Namespace, session: aiohttp.ClientSession) ->
 
 
 def add_epochs(sub: argparse.ArgumentParser) -> None:
-    """Has it be said for how long files are kept."""
+    """Adds the options that say for how long files are kept; one of them is required."""
     group = sub.add_mutually_exclusive_group(required=True)
     group.add_argument("--epochs", type=int, help="for how many epochs from now on")
     group.add_argument("--for", dest="time", metavar="TIME", help="for how long at least, such as 90d, by the calendar")
@@ -140,19 +140,19 @@ def parse() -> argparse.Namespace:
         return sub
 
     remote = {"gateway": (os.environ.get("WALRUS_GATEWAY", URL), "its URL, or the variable WALRUS_GATEWAY")}
-    plain = {"json": (False, "say what came of it as JSON")}
+    plain = {"json": (False, "print the result as JSON")}
     bundle = {"bundle": (False, "store small files together, as one bundle")}
     sub = add("store", "store files and folders; - is standard input", "file+", **bundle, **remote, **plain)
     add_epochs(sub)
-    out = {"output": ("-", "where it goes"), "only": ("", "the path of a file or a folder in it, of a folder")}
-    add("fetch", "get a file back, which in a bundle is ID/NUMBER, or a folder", "id", **out, **remote, **plain)
-    within = {"within": (65_536, "that end in so many epochs at most, now being one")}
+    out = {"output": ("-", "the file or folder to write"), "only": ("", "fetch only this file or folder of a folder")}
+    add("fetch", "fetch a file, a file of a bundle (ID/NUMBER), or a folder", "id", **out, **remote, **plain)
+    within = {"within": (65_536, "those that end within this number of epochs, the present one included")}
     add("list", "list the blobs", **within, **remote, **plain)
-    within = {"within": (1, "that end in so many epochs at most, now being one")}
+    within = {"within": (1, "those that end within this number of epochs, the present one included")}
     add("expiring", "list the blobs that end soon", **within, **remote, **plain)
     sub = add("extend", "keep files for longer", "id+", **remote, **plain)
     add_epochs(sub)
-    add("status", "tell of the network, or of a blob", "id?", **remote, **plain)
+    add("status", "show the state of the network, or of a blob", "id?", **remote, **plain)
     add("challenge", "have a node show that it holds its part of a blob", "id", "node", **remote, **plain)
     operators.add_words(add)
     tokens.add_words(add("token", tokens.TEXT, "name", **tokens.WORDS, **plain))
@@ -171,7 +171,7 @@ async def run(words: argparse.Namespace) -> int:
 
 
 def finish(words: argparse.Namespace) -> int:
-    """Does a command, and has all that it says go out; its exit status."""
+    """Runs a command, flushes its output, and returns the exit status."""
     if words.command == "completion":
         print(COMPLETION)
     elif words.command == "token":
@@ -188,7 +188,7 @@ def main() -> int:
     except KeyboardInterrupt:
         text, status = "interrupted", 130
     except BrokenPipeError:
-        os.dup2(os.open(os.devnull, os.O_WRONLY), 1)  # Python writes there again at its end
+        os.dup2(os.open(os.devnull, os.O_WRONLY), 1)  # Python flushes it again as it ends
         text, status = "nobody reads what it writes any more", 1
     except FAULTS as fault:
         is_lost = isinstance(fault, (aiohttp.ClientError, TimeoutError)) and "gateway" in words

@@ -1,6 +1,7 @@
-"""Files of settings, one for each role: read, checked in words, and written.
+"""Files of settings, one for each service: reading, checking and writing them.
 
-A file is TOML whose `role` says what for; a dataclass has its other names. Paths are relative to the file."""
+A file is TOML. Its `role` names the kind of service, whose dataclass has the other names. Paths are relative to the
+file."""
 import dataclasses
 import ipaddress
 import json
@@ -12,7 +13,7 @@ from typing import Any, ClassVar, Mapping, Protocol, TypeVar
 
 
 class Role(Protocol):
-    """A dataclass of settings."""
+    """A dataclass with the settings of a role."""
 
     role: ClassVar[str]
     paths: ClassVar[tuple[str, ...]]  # the settings that are paths
@@ -21,13 +22,13 @@ class Role(Protocol):
 
 Kind = TypeVar("Kind", bound=Role)
 WORDS = {str: "a text", int: "a whole number", float: "a number", bool: "true or false"}
-# The least of numbers by their names; of all others it is 0. With less a service would ask without a pause (probe), or
-# take the ledger for away between two words of a recorder, which come each second (stale), or wait for ever.
+# The least values of numbers by their names; 0 for all others. With less a service would ask without a pause (probe),
+# take the ledger for away between two lines of a recorder, which come each second (stale), or wait for ever.
 LEAST = {"scrub_rate": 1, "connections": 1, "uploads": 1, "turns": 1, "epochs": 1, "probe": 0.1, "stale": 2}
 
 
 class Wrong(ValueError):
-    """What is wrong with a file of settings, in sentences."""
+    """A file of settings is wrong; the text has all its faults."""
 
 
 def words_of(kind: Any) -> str:
@@ -35,14 +36,14 @@ def words_of(kind: Any) -> str:
 
 
 def fits(value: Any, kind: Any) -> bool:
-    """Whether a value of a file is of the type that a field of a dataclass has."""
+    """Return whether a value from a file has the type of a field of a dataclass."""
     if typing.get_origin(kind) is list:
         return isinstance(value, list) and all(fits(it, typing.get_args(kind)[0]) for it in value)
     return type(value) in ((int, float) if kind is float else (kind,))
 
 
 def values_of(path: pathlib.Path) -> dict[str, Any]:
-    """What a file says, without its role's form."""
+    """Return the values of a file, without a check against a role. Raises `Wrong` or `OSError`."""
     try:
         text = path.read_text()
         values = json.loads(text) if path.suffix == ".json" else tomllib.loads(text)
@@ -54,7 +55,7 @@ def values_of(path: pathlib.Path) -> dict[str, Any]:
 
 
 def is_address(text: str) -> bool:
-    """Whether a text is an address as it is told of a connection."""
+    """Return whether a text is an IP address in the form that a connection reports."""
     try:
         return str(ipaddress.ip_address(text)) == text
     except ValueError:
@@ -62,7 +63,7 @@ def is_address(text: str) -> bool:
 
 
 def faults_of_values(values: Mapping[str, Any]) -> list[str]:
-    """Which settings no service can have, though they are of their types."""
+    """Return the faults of settings that have the right type but a value that no service can have."""
     faults = []
     for name, value in values.items():
         if type(value) in (int, float) and not value >= LEAST.get(name, 0):
@@ -74,7 +75,7 @@ def faults_of_values(values: Mapping[str, Any]) -> list[str]:
 
 
 def faults_in(kind: type[Role], values: Mapping[str, Any]) -> list[str]:
-    """What is wrong with the settings of a role, beside what stands in the files that they name."""
+    """Return the faults in the settings of a role, without reading the files that they name."""
     fields = {field.name: field for field in dataclasses.fields(kind)}
     none = dataclasses.MISSING
     needed = [name for name, it in fields.items() if it.default is none and it.default_factory is none]
@@ -90,8 +91,8 @@ def faults_in(kind: type[Role], values: Mapping[str, Any]) -> list[str]:
 
 
 def located(path: pathlib.Path, text: str) -> str:
-    """Where a file of settings means; a secret that the service manager has handed over is where it put it. Standard
-    output (-) has no place."""
+    """Return a path that a file of settings has, resolved against the file's folder, or the path of the credential of
+    that name if the service manager passed one. Standard output (-) stays as it is."""
     if text == "-":
         return text
     given = os.environ.get("CREDENTIALS_DIRECTORY")
@@ -101,7 +102,7 @@ def located(path: pathlib.Path, text: str) -> str:
 
 
 def settings_of(kind: type[Kind], path: pathlib.Path) -> Kind:
-    """The settings of a role in a file; raises `Wrong`."""
+    """Return the settings of a role from a file; raises `Wrong`."""
     values = values_of(path)
     if faults := faults_in(kind, values):
         raise Wrong(f"{path}: {'; '.join(faults)}")
@@ -110,6 +111,6 @@ def settings_of(kind: type[Kind], path: pathlib.Path) -> Kind:
 
 
 def write(kind: type[Role], path: pathlib.Path, values: Mapping[str, Any]) -> None:
-    """Writes a file of settings; texts, numbers and lists are alike in TOML and in JSON."""
+    """Write a file of settings. Texts, numbers and lists are written the same in TOML as in JSON."""
     assert not faults_in(kind, values), faults_in(kind, values)
     path.write_text("".join(f"{name} = {json.dumps(it)}\n" for name, it in {"role": kind.role, **values}.items()))

@@ -1,4 +1,4 @@
-"""Connections of clients, over TLS or not: who says nothing is let go, and nobody has them all."""
+"""Connections of clients, with or without TLS: silent ones are closed, and no client can have them all."""
 import asyncio
 import collections
 import contextlib
@@ -19,30 +19,30 @@ from ..port import HANDSHAKE, MANY
 from ..wire import accept, bound
 from .entries import NAME
 
-FIRST, EACH = 30.0, 300  # seconds for a request's head, from the reply before it; connections of one address
+FIRST, EACH = 30.0, 300  # seconds for a request's head, since the last reply; the most connections of one address
 MALFORMED = b"HTTP/1.1 400 Bad Request\r\nContent-Length: 0\r\nConnection: close\r\n\r\n"
-GRACE, LEAST = 60.0, 32_768  # seconds in which a reply is taken, and bytes of it for which there is a second more
-FIELDS, WAITING, AHEAD = 64, 64, 65_536  # fields of a request's head; what a client has sent before it is answered:
-# requests, and bytes of their heads, and of their bodies
-STEP, PARTS = 16_384, 1_024  # bytes that are taken at once, but of a body of a known length; its parts that wait
+GRACE, LEAST = 60.0, 32_768  # seconds in which a client must take a reply; one more for each LEAST bytes of it
+FIELDS, WAITING, AHEAD = 64, 64, 65_536  # the most fields of a request's head; the most that a client may send ahead:
+# requests, bytes of their heads, and bytes of their bodies
+STEP, PARTS = 16_384, 1_024  # bytes parsed at once, except of a body of known length; parts of a body that may wait
 
 
 class Connection(web.RequestHandler):
-    """A connection with a client, which counts among all of its server and among those of whom it is from: one too many
-    is ended. What aiohttp stumbles over, such as some addresses, is malformed too."""
+    """A connection with a client. It counts towards the bounds of its server and its peer, and is closed if it exceeds
+    one. If aiohttp raises `ValueError`, as for some addresses, the request counts as malformed, too (400)."""
 
-    first: asyncio.TimerHandle  # ends a connection that brings no request, or does not take the last reply
+    first: asyncio.TimerHandle  # closes a connection that sends no request, or does not take the last reply
 
     def __init__(self, server: web.Server, most: int, each: "collections.Counter[str]", **words: Any):
         loop = asyncio.get_running_loop()
         words |= {"keepalive_timeout": FIRST, "lingering_time": 2, "auto_decompress": False, "max_headers": FIELDS}
         super().__init__(server, loop=loop, **words)
         self.server, self.most, self.each, self.peer = server, most, each, ""
-        self.body, self.length = streams.EMPTY_PAYLOAD, 0  # of the last request; as long as was told, if that was
-        self.half = 0  # bytes of a head that came in part, or of the lines behind a body
+        self.body, self.length = streams.EMPTY_PAYLOAD, 0  # of the last request; its Content-Length, or 0
+        self.half = 0  # bytes of an incomplete head, or of trailers after a body
 
     def whom(self, transport: asyncio.BaseTransport) -> tuple[str, float]:
-        """Whom a connection is from, and how many these may have."""
+        """Returns the key of the peer under which a connection counts, and how many connections it may have."""
         raise NotImplementedError
 
     def connection_made(self, transport: asyncio.BaseTransport) -> None:
@@ -58,17 +58,17 @@ class Connection(web.RequestHandler):
         self.first.cancel()
         self.each[self.peer] -= 1
         if self.each[self.peer] <= 0:
-            del self.each[self.peer]  # so that only who is connected is known
+            del self.each[self.peer]  # so that only connected peers take memory
 
     def data_received(self, data: bytes) -> None:
-        """Takes what comes step by step, so that of what is too much little is taken."""
+        """Parses what arrives in steps, so that little of it is parsed once it is too much."""
         while data and self.transport and not self.transport.is_closing():
             size = max(STEP, self.length - self.body.total_bytes)
             self.take(data[:size])
             data = data[size:]
 
     def take(self, data: bytes) -> None:
-        """Takes some of what comes. What is malformed, or too much, ends the connection."""
+        """Parses one step of what arrives. The connection ends if it is malformed or too much."""
         before = len(self._messages), self.body.total_bytes
         try:
             super().data_received(data)
@@ -82,8 +82,8 @@ class Connection(web.RequestHandler):
             self.transport.abort()
 
     def look(self) -> None:
-        """Notes whose body comes. What waits to be read of a body becomes one part, where it came in many: each takes
-        48 bytes of memory, also a chunk of one byte. No more of it is taken before somebody has read that."""
+        """Notes the body that is arriving. If more than `PARTS` parts of a body wait to be read, they are joined: each
+        takes 48 bytes of memory, even a chunk of one byte. The connection is not read again before the body is."""
         if self._messages:
             head, self.body = self._messages[-1]
             self.length = int(getattr(head, "headers", {}).get("Content-Length", 0))
@@ -92,37 +92,37 @@ class Connection(web.RequestHandler):
                 body.unread_data(body.read_nowait())
                 self.pause_reading()
         if self.body.is_eof():
-            self.resume_reading()  # for what comes behind it, also where nobody reads it
+            self.resume_reading()  # for what follows the body, even if nobody reads the body
 
     def is_ahead(self) -> bool:
-        """Whether a client has sent more than may wait while it is answered: requests, their heads, also one that is
-        not whole, whole bodies of these behind the first one, or what follows one for another protocol. aiohttp has no
-        bound, and no public way to see it."""
+        """Whether a client has sent too much ahead of its replies: requests; bytes of their heads, with an incomplete
+        one; bytes of whole bodies after the first, and of what follows an upgrade to another protocol. aiohttp has no
+        bound for these, and no public way to see them."""
         fields = (field for head, _ in self._messages for field in getattr(head, "raw_headers", ()))
         heads = max(self.half, sum(map(len, itertools.chain.from_iterable(fields))))
         bodies = sum(getattr(body, "total_bytes", 0) for _, body in itertools.islice(self._messages, 1, None))
         return len(self._messages) > WAITING or heads > AHEAD or bodies + len(self._message_tail) > AHEAD
 
     async def finish_response(self, request: web.BaseRequest, resp: web.StreamResponse, *words: Any) -> Any:
-        """Sends a reply, or what is left of one that is a stream. Who does not take it is let go: aiohttp waits for
-        ever, and so would a transport that is closed with something to send."""
+        """Sends a reply, or the rest of one that is a stream. A client that does not take it in time is disconnected:
+        aiohttp would wait for ever, and so would a transport that is closed with data to send."""
         body = resp.body if isinstance(resp, web.Response) else None
         seconds = GRACE + (len(body) if isinstance(body, bytes) else 0) / LEAST
         self.first.cancel()
         if transport := self.transport:
             self.first = asyncio.get_running_loop().call_later(seconds, transport.abort)
-        asyncio.get_running_loop().call_soon(self.look)  # at what came behind a wish for another protocol
+        asyncio.get_running_loop().call_soon(self.look)  # for what follows a request for another protocol
         ended = await super().finish_response(request, resp, *words)
         self.look()
         return ended
 
     def handle_error(self, request: web.BaseRequest, status: int = 500, exc: Any = None, message: Any = None) -> Any:
-        """Text that cannot be encoded again, which aiohttp would answer with, is the client's."""
+        """Answers errors. If aiohttp cannot encode the client's text into its reply, the fault is the client's: 400."""
         return super().handle_error(request, 400 if isinstance(exc, UnicodeError) else status, exc, message)
 
 
 class Counted(Connection):
-    """A connection that counts among those of its address, unless that is of a server before the gateway."""
+    """A connection that counts towards the bound of its address, unless that is a proxy before the gateway."""
 
     proxies: set[str]
 
@@ -132,7 +132,7 @@ class Counted(Connection):
 
 
 class Named(Connection):
-    """A connection that counts among those of the name in its certificate; `bound` says how many that may have."""
+    """A connection that counts towards the bound of the name in its certificate, which `bound` returns."""
 
     def __init__(self, *words: Any, bound: Callable[[str], float]):
         super().__init__(*words, access_log=None)
@@ -146,25 +146,25 @@ class Named(Connection):
 
 
 class Server:
-    """A service over HTTP, whose connections count as `connect` makes them. Those whose TLS handshake is not done count
-    apart, by address, from the moment that they are accepted."""
+    """A service over HTTP, whose connections count as `connect` makes them. TLS handshakes that are under way count
+    separately, by address, from accept on."""
 
-    most: int  # handshakes that may be under way
-    shake_hands: Callable[[socket.socket], Awaitable[Any]]  # has a connection be served once its handshake is done
+    most: int  # the most handshakes under way
+    shake_hands: Callable[[socket.socket], Awaitable[Any]]  # does the handshake, and then serves the connection
 
     def __init__(self) -> None:
         self.runner: Optional[web.AppRunner] = None
         self.listening, self.accepting = list[socket.socket](), list["asyncio.Task[None]"]()
-        self.coming = dict["asyncio.Task[Any]", str]()  # from where handshakes are, by the tasks that see to them
+        self.coming = dict["asyncio.Task[Any]", str]()  # the key of the address of each handshake, by its task
 
     def connect(self, server: web.Server) -> Connection:
-        """What serves a new connection; one too many is ended, and later one that says nothing."""
+        """Returns what serves a new connection, and closes it if it is one too many or stays silent."""
         raise NotImplementedError
 
     async def serve(
         self, app: web.Application, host: str, port: int, most: int, context: Optional[ssl.SSLContext] = None
     ) -> int:
-        """Answers from here on, over TLS if so told; the port. At most so many handshakes are under way."""
+        """Starts to answer, over TLS if there is a `context`, and returns the port. `most` bounds the handshakes."""
         logging.getLogger("aiohttp.server").addFilter(is_own_fault)
         self.runner = web.AppRunner(app)
         await self.runner.setup()
@@ -178,8 +178,8 @@ class Server:
         return int(self.listening[0].getsockname()[1])
 
     async def come(self, connection: socket.socket, address: tuple[Any, ...]) -> None:
-        """Sees to the handshake of a connection. Where there are too many, that one ends which waits longest, first of
-        those from where many are."""
+        """Does the handshake of a connection. If there are too many, the oldest one is cancelled, preferably one of an
+        address that has a large part of them."""
         task = asyncio.current_task()
         assert task
         if len(self.coming) >= self.most:
@@ -189,13 +189,13 @@ class Server:
             first.cancel()
         self.coming[task] = key_of(str(address[0]))
         try:
-            with contextlib.suppress(asyncio.CancelledError, OSError):  # it gives way, or there is no TLS with it
+            with contextlib.suppress(asyncio.CancelledError, OSError):  # it was cancelled for another, or TLS failed
                 await self.shake_hands(connection)
         finally:
             self.coming.pop(task, None)
 
     async def end(self, seconds: float) -> None:
-        """Answers no more; what is under way has so long."""
+        """Stops accepting connections; requests under way have `seconds` to end."""
         for tasks in (self.accepting, self.coming):
             for task in tasks:
                 task.cancel()
@@ -206,7 +206,7 @@ class Server:
 
 
 class Certificate:
-    """The certificate of a server, which is read again once its file changes."""
+    """The TLS certificate of a server, which is loaded again when its files change."""
 
     def __init__(self, certificate: str, key: str):
         self.files = certificate, key
@@ -218,19 +218,19 @@ class Certificate:
         return [(it.st_mtime_ns, it.st_ino) for it in map(os.stat, self.files)]
 
     def refresh(self) -> None:
-        """Takes a new certificate for the connections from here on; where it does not fit, the old one stays."""
+        """Loads a changed certificate for new connections; if it does not fit its key, the old one stays in use."""
         with contextlib.suppress(OSError):
             if (state := self.look()) != self.state:
                 self.state = state
                 try:
                     trial = ssl.SSLContext(ssl.PROTOCOL_TLS_SERVER)
-                    trial.load_cert_chain(*self.files)  # or one that does not fit would take the old key away
+                    trial.load_cert_chain(*self.files)  # tried here first: a failed load would break the one in use
                     self.context.load_cert_chain(*self.files)
                 except (OSError, ValueError) as fault:
-                    print(f"{self.files[0]} is not taken: {fault}", file=sys.stderr, flush=True)
+                    print(f"{self.files[0]} is not used: {fault}", file=sys.stderr, flush=True)
 
 
 def is_own_fault(record: logging.LogRecord) -> bool:
-    """Whether what aiohttp would log is more than a client's malformed request, or one that is gone."""
+    """Whether a log record of aiohttp is about more than a malformed request, or a client that has gone."""
     faults = http_exceptions.HttpProcessingError, ConnectionError, UnicodeError
     return not (record.exc_info and isinstance(record.exc_info[1], faults))

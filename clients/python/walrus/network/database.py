@@ -1,4 +1,4 @@
-"""A database in SQLite that one process has at a time."""
+"""An SQLite database that one process at a time may open."""
 import asyncio
 import concurrent.futures
 import contextlib
@@ -11,14 +11,14 @@ from .notify import extending
 
 
 class Database:
-    """A database, or one of this object alone where no path is named."""
+    """A database under a lock file, or one without files, of this object alone, if `name` is empty."""
 
-    seconds = 20.0  # that are waited for one that another process has locked
-    checked: Sequence[object] = (1,)  # the tables whose pages are checked, or the most faults that are told of any page
+    seconds = 20.0  # to wait while another process has locked the database
+    checked: Sequence[object] = (1,)  # tables whose pages are checked; (1,): all, up to one fault
 
     def __init__(self, name: str):
         self.name, self.fault = name, ""
-        self.working: Optional["concurrent.futures.Future[object]"] = None  # what a thread does over the connection
+        self.working: Optional["concurrent.futures.Future[object]"] = None  # a thread's work over `base`
         with contextlib.ExitStack() as opened:
             if name:
                 fcntl.flock(opened.enter_context(open(f"{name}.lock", "ab")), fcntl.LOCK_EX | fcntl.LOCK_NB)
@@ -29,23 +29,23 @@ class Database:
             self.opened = opened.pop_all()
 
     def open_tables(self) -> None:
-        """Finds the tables, or makes them."""
+        """Make the tables unless they are there."""
 
     def must_be_whole(self) -> None:
-        """Raises where pages are not as they were written. All that are checked are read."""
+        """Raise `DatabaseError` if pages do not fit together. Reads all that are checked, so a start may take long."""
         with extending():
             found = {self.base.execute(f"PRAGMA quick_check({it})").fetchone() for it in self.checked}
         if found != {("ok",)}:
             raise sqlite3.DatabaseError("its pages do not fit together")
 
     def tell(self, fault: Exception) -> None:
-        """Says what the disk does not take, once until it takes something again."""
+        """Report a write that failed, once until another one works."""
         if str(fault) != self.fault:
             print(f"the disk does not take {self.name}: {fault}; it is tried again", file=sys.stderr, flush=True)
         self.fault = str(fault)
 
     async def aside(self, work: Callable[[], object]) -> None:
-        """Has a thread do what takes long over the connection, which nobody else uses meanwhile, and `close` waits."""
+        """Run long work over the connection in a thread. Nothing else may use it meanwhile; `close` waits for it."""
         pool = concurrent.futures.ThreadPoolExecutor(1, "database")
         self.working = pool.submit(work)
         pool.shutdown(wait=False)

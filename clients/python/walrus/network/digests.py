@@ -1,4 +1,4 @@
-"""Checksums of files in headers: `Repr-Digest` and `Want-Repr-Digest` (RFC 9530), and `Digest` (RFC 3230) before it."""
+"""SHA-256 of files in headers: `Repr-Digest`, `Want-Repr-Digest` (RFC 9530), and the older `Digest` (RFC 3230)."""
 import base64
 import binascii
 import hashlib
@@ -15,7 +15,8 @@ WANTED = "Want-Repr-Digest", "Want-Digest"
 
 
 def promised(request: web.Request) -> Optional[bytes]:
-    """The SHA-256 that a request says its file has; raises where it says two, or none that can be read."""
+    """Returns the SHA-256 that a request promises for its file, or None. Raises `Problem` if it is malformed, or if two
+    different ones are promised."""
     found = set[bytes]()
     for name, form in FORMS.items():
         for part in ",".join(request.headers.getall(name, [])).split(","):
@@ -26,12 +27,12 @@ def promised(request: web.Request) -> Optional[bytes]:
                 except binascii.Error:
                     raise Problem(400, f"{name} has no SHA-256 in base64: {part.strip()[:80]}") from None
     if len(found) > 1:
-        raise Problem(400, "the file is said to have two digests")
+        raise Problem(400, "the request gives two different SHA-256 of the file: send one")
     return found.pop() if found else None
 
 
 def wanted(request: web.Request) -> bool:
-    """Whether a request asks for the SHA-256 of the file."""
+    """Whether a request asks for the SHA-256 of the file, with a weight other than 0."""
     asked = ",".join(request.headers.get(name, "") for name in WANTED)
     for part in asked.lower().replace(" ", "").replace(";q", "").split(","):
         name, _, weight = part.partition("=")
@@ -41,12 +42,12 @@ def wanted(request: web.Request) -> bool:
 
 
 def is_asked(request: web.Request) -> bool:
-    """Whether a request says anything of digests: for 16 MiB one takes 40 ms."""
+    """Whether a request promises or asks for digests. Others are spared the SHA-256, which takes 40 ms for 16 MiB."""
     return any(name in request.headers for name in (*FORMS, *WANTED))
 
 
 def fields(digest: bytes) -> dict[str, str]:
-    """The headers that tell a digest."""
+    """Returns the headers with a digest."""
     text = base64.b64encode(digest).decode()
     return {"Repr-Digest": f"sha-256=:{text}:", "Digest": f"sha-256={text}"}
 

@@ -15,7 +15,7 @@ PAST = "past"
 LAST_EPOCH, LAST_UNTIL, MOST_FAULTS, MOST_SHARE = 65_535, 65_536, 333, 16_777_216
 LONGEST = 16_384  # bytes of an entry
 DIGITS = 12  # of a number at most; a place always has that many in etcd's keys
-LAST_MINUTE = 99_999_999  # the largest number of minutes in a calendar, in which minutes count since 1970
+LAST_MINUTE = 99_999_999  # of a calendar at most: a minute since 1970, or the minutes of an epoch
 NAME, HOST = re.compile("[A-Za-z0-9][A-Za-z0-9._-]{0,63}"), re.compile("[A-Za-z0-9:][A-Za-z0-9.:-]{0,252}")
 IDENTIFIER = re.compile("[0-9a-f]{64}")
 

@@ -164,7 +164,7 @@ class Etcd:
                 break
         batches = [it for it in map(Batch.read, found) if it.last > after]
         if not batches or batches[0].before.place > after:
-            raise Gone(f"the entries behind place {after} are dropped")
+            raise Gone(f"the entries after place {after} are dropped")
         return batches
 
     async def append(self, head: str, after: str, batch: Optional[Batch] = None) -> tuple[str, list[Batch]]:

@@ -1,4 +1,4 @@
-"""What a gateway is told: what it may use, and who may reach it and how, by names, tokens, certificates and limits."""
+"""Options of a gateway: what it may use, and who may reach it and how (names, tokens, certificates and limits)."""
 import argparse
 import dataclasses
 from typing import Any
@@ -6,54 +6,54 @@ from typing import Any
 
 @dataclasses.dataclass
 class Exposure:
-    """How a gateway is exposed. Without any of it, it stores for its own machine alone."""
+    """How a gateway is exposed. By default it stores only for its own machine."""
 
-    tokens: str = ""  # the file of tokens; FOLDER/tokens.json, where it is empty
-    used: str = ""  # the database of what tokens have used; beside the tokens, where it is empty
-    names: list[str] = dataclasses.field(default_factory=list)  # under which it is asked, beside its addresses
-    proxies: list[str] = dataclasses.field(default_factory=list)  # addresses whose X-Forwarded-For is believed
+    tokens: str = ""  # the file of tokens; if empty, FOLDER/tokens.json
+    used: str = ""  # the database of what tokens have used; if empty, one beside the tokens
+    names: list[str] = dataclasses.field(default_factory=list)  # names of the gateway, beside its addresses
+    proxies: list[str] = dataclasses.field(default_factory=list)  # addresses whose X-Forwarded-For is trusted
     tls_certificate: str = ""
     tls_key: str = ""
-    sites: str = ""  # the host below which each folder has one of its own; none, where it is empty
-    log: str = ""  # a file for a line for each request; - is standard output
-    requests: float = 1_000.0  # a second, of a token and of an address; any number, where it is 0
-    rate: float = 0.0  # bytes a second, of a token and of an address; any number, where it is 0
+    sites: str = ""  # the host under which each folder has a host of its own; none if empty
+    log: str = ""  # the file of the access log; - is standard output
+    requests: float = 1_000.0  # per second, of a token and of an address; unlimited if 0
+    rate: float = 0.0  # bytes per second, of a token and of an address; unlimited if 0
 
 
 @dataclasses.dataclass
 class Options(Exposure):
     """What a gateway may use, how long it tries, and how it is exposed."""
 
-    memory: int = 268_435_456  # bytes of the whole gateway, whatever it is asked
-    room: int = 2_147_483_648  # bytes of the disk for blobs that were read
-    reserve: float = 0.05  # of the disk, which what comes leaves free
-    most: int = 17_179_869_184  # bytes of a file
-    uploads: int = 256  # files that come in at once
+    memory: int = 268_435_456  # bytes of memory for the whole gateway
+    room: int = 2_147_483_648  # bytes of disk for blobs that are read, sent or cached
+    reserve: float = 0.05  # part of the disk that uploads leave free
+    most: int = 17_179_869_184  # the most bytes of a file
+    uploads: int = 256  # uploads that are received at once
     turns: int = 2  # blobs that are encoded at once
     connections: int = 900
-    epochs: int = 100  # for which a file is kept at most
-    stale: float = 30.0  # seconds for which the ledger may be away before nothing is served that rests on it
-    seconds: float = 10.0  # for which a blob of which too little is heard is asked for again
+    epochs: int = 100  # the most epochs for which a file is kept
+    stale: float = 30.0  # seconds for which the ledger may be away before answers that depend on it are refused
+    seconds: float = 10.0  # seconds for which reads are retried if too few shards return something useful
     patience: float = 30.0  # seconds in which a shard must answer
-    probe: float = 3.0  # seconds between two questions whether nodes answer
-    challenge: float = 60.0  # seconds between two challenges; none where it is 0
+    probe: float = 3.0  # seconds between two checks whether nodes answer
+    challenge: float = 60.0  # seconds between two challenges; no challenges if 0
 
 
 WORDS: dict[str, tuple[Any, str]] = {
     "tokens": ("", "a file of tokens, in place of tokens.json in the folder"),
-    "names": ("", "names under which it is asked, with commas between, beside its addresses"),
-    "proxies": ("", "addresses of servers before it, with commas between, whose X-Forwarded-For is believed"),
+    "names": ("", "names of the gateway beside its addresses, separated by commas"),
+    "proxies": ("", "addresses of proxies before it, separated by commas, whose X-Forwarded-For is trusted"),
     "certificate": ("", "a file with the certificate for HTTPS, and those between it and its root"),
-    "key": ("", "the file with its key"),
-    "sites": ("", "HOST, of which each folder has a name below, ID.HOST"),
-    "log": ("", "a file for a line for each request; - is standard output"),
-    "requests": (Exposure.requests, "that a token and an address may make a second, or 0"),
-    "rate": (Exposure.rate, "bytes that a token and an address may move a second, or 0"),
+    "key": ("", "the file with the key of the certificate"),
+    "sites": ("", "the host under which each folder has a host of its own, as LABEL.HOST"),
+    "log": ("", "the file of the access log; - is standard output"),
+    "requests": (Exposure.requests, "the most requests per second of a token or of an address; 0 is unlimited"),
+    "rate": (Exposure.rate, "the most bytes per second of a token or of an address, in and out; 0 is unlimited"),
 }
 
 
 def chosen(words: argparse.Namespace) -> dict[str, Any]:
-    """The settings that the options of a command line make."""
+    """Returns the options of `Exposure` that a command line sets; raises `ValueError` if they contradict."""
     if bool(words.certificate) != bool(words.key):
         raise ValueError("--certificate and --key go together")
     lists = {name: [it for it in getattr(words, name).split(",") if it] for name in ("names", "proxies")}

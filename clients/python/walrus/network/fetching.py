@@ -1,4 +1,4 @@
-"""Folders from a gateway, which is not believed: all that is fetched is named here before it takes its place."""
+"""Fetches folders from a gateway, which is not trusted: all is checked by its identifier before it takes its place."""
 import errno
 import functools
 import os
@@ -18,14 +18,14 @@ from .trees import Work, several
 
 
 class Fetching:
-    """A folder that is fetched into one of this machine."""
+    """Fetches a folder into one of this machine."""
 
     def __init__(self, session: aiohttp.ClientSession, naming: Naming, root: Root, bar: Bar):
         self.session, self.root, self.bar = session, root, bar
         self.walrus, self.faults, self.written = naming.walrus, naming.faults, 0
 
     async def named(self, file: IO[bytes], name: bytes) -> bool:
-        """Whether what is in a file is what an identifier names."""
+        """Whether an identifier names the contents of a file."""
         naming = Naming(self.walrus, self.faults)
         file.seek(0)
         while part := file.read(PART):
@@ -33,7 +33,7 @@ class Fetching:
         return await is_named(file, name, naming)
 
     async def receive(self, name: bytes, most: int, out: IO[bytes]) -> int:
-        """Writes what is named so, of so many bytes at most."""
+        """Writes the file of an identifier, of at most `most` bytes, and returns its length."""
         naming, limited = Naming(self.walrus, self.faults), Limited(out, most)
         size = await receive(self.session, name.hex(), limited, naming, self.bar)  # type: ignore[arg-type]
         if not await is_named(out, name, naming):
@@ -41,7 +41,7 @@ class Fetching:
         return size
 
     async def fetch_whole(self, place: Place) -> None:
-        """Fetches a file that lies on its own, unless it is there."""
+        """Fetches a file that is stored on its own, unless it is here."""
         with self.root.opened(place.path, place.length) as there:
             if there and await self.named(there, place.file):
                 return
@@ -51,7 +51,7 @@ class Fetching:
         self.written += 1
 
     async def fetch_pack(self, name: bytes, places: list[Place]) -> None:
-        """Fetches what lies in a pack, unless all of the pack is there."""
+        """Fetches the files of a pack, unless all of the pack is here."""
         if await self.is_there(name, places):
             return
         with tempfile.TemporaryFile() as pack:
@@ -64,7 +64,7 @@ class Fetching:
                 self.write(place.path, os.pread(pack.fileno(), place.length, start))
 
     async def is_there(self, name: bytes, places: list[Place]) -> bool:
-        """Whether the files that are there make up the pack of this name."""
+        """Whether the files that are here make up the pack with this identifier."""
         with tempfile.TemporaryFile() as made:
             end = 0
             for place in sorted(places, key=lambda it: it.offset or 0):
@@ -79,7 +79,7 @@ class Fetching:
             return await self.named(made, name)
 
     def write(self, path: str, data: bytes) -> None:
-        """Writes a file, unless it is there and equal."""
+        """Writes a file, unless an equal one is here."""
         with self.root.opened(path, len(data)) as there:
             if there and there.read() == data:
                 return
@@ -101,7 +101,7 @@ class Fetching:
 
 
 class Limited:
-    """A file that takes so many bytes at most, in case that a gateway gives without end."""
+    """A file that accepts at most `most` bytes, in case a gateway sends without end."""
 
     def __init__(self, file: IO[bytes], most: int):
         self.file, self.left = file, most
@@ -114,7 +114,7 @@ class Limited:
 
 
 def wanted(manifest: Manifest, only: str) -> list[Place]:
-    """The files of a folder that are asked for: one, or those in a folder of it."""
+    """Returns the files that are asked for: `only` itself, those in the folder `only`, or all if it is empty."""
     only = only.strip("/")
     front = f"{only}/" if only else ""
     found = [it for it in manifest if it.path == only or it.path.startswith(front)]
@@ -124,7 +124,7 @@ def wanted(manifest: Manifest, only: str) -> list[Place]:
 
 
 async def fetch_folder(session: aiohttp.ClientSession, data: bytes, output: str, only: str) -> dict[str, Any]:
-    """Fetches the folder of this manifest, or a part of it, into a folder of this machine."""
+    """Fetches the folder of this manifest, or the part `only` of it, into the folder `output` of this machine."""
     try:
         manifest = Manifest(data)
     except Wrong as fault:
@@ -149,7 +149,7 @@ class IsFolder(Exception):
 
 
 async def fetch_any(session: aiohttp.ClientSession, name: str, output: str, only: str) -> dict[str, Any]:
-    """Fetches a file, or a folder unless it goes to standard output, where its manifest goes."""
+    """Fetches a file or a folder. For a folder, only the manifest goes to standard output."""
     if only and output == "-":
         raise Failure("--only is for a folder, which goes into a folder: name it with --output", 2)
     (blob, number), data = parts_of(name), b""
@@ -177,7 +177,7 @@ async def fetch_any(session: aiohttp.ClientSession, name: str, output: str, only
 
 
 async def fetch_file(session: aiohttp.ClientSession, name: str, out: IO[bytes]) -> int:
-    """Fetches a file; nothing is left of one that nobody can read any more."""
+    """Fetches a file; drops what has come of it if nobody can read it any more."""
     try:
         return await fetch(session, name, out)
     except Failure as fault:

@@ -1,4 +1,4 @@
-"""What an operator sees of a node: its figures, which its port tells whoever asks; and a scrub begins when asked."""
+"""What an operator sees of a node: its port returns figures to anybody who asks, and begins a scrub on request."""
 import asyncio
 import collections
 import contextlib
@@ -22,7 +22,7 @@ from .times import Times
 if TYPE_CHECKING:
     from .node import Node
 
-NAMES = {  # of requests, as they are told
+NAMES = {  # of requests, as labels of metrics
     client.METADATA: "metadata",
     client.SECOND_METADATA: "metadata",
     client.SLIVER: "sliver",
@@ -34,20 +34,20 @@ NAMES = {  # of requests, as they are told
     client.FORGET: "forget",
     whole.WHOLE: "store",
 }
-FRESH, MOMENT = 10.0, 1.0  # seconds for which what is held is not counted anew; that are waited for a count at most
+FRESH, MOMENT = 10.0, 1.0  # seconds until what is held is counted again; to wait for a count at most
 
 
 class NodePort(Port):
-    """The port of a node."""
+    """The port of a node, which also returns figures, begins scrubs, and counts requests."""
 
     def __init__(self, node: "Node", bounds: Bounds):
         super().__init__(node.reply, client.Shape(1), bounds)
-        self.node, self.held, self.due = node, dict[str, int](), 0.0  # what was counted last, and when it is anew
+        self.node, self.held, self.due = node, dict[str, int](), 0.0  # the last count; when it is due again
         self.counting: "Optional[asyncio.Task[None]]" = None
         self.times, self.moved = Times(), collections.Counter[str]()
 
     async def answer(self, client: Connection, sender: int, payload: Optional[Data]) -> Said:
-        """Has a request answered, and counts it by its kind, its time and its bytes."""
+        """Return the reply to a request, and count the request by kind, time and bytes."""
         with self.times.taking(f'kind="{NAMES.get(payload[0] if payload else 0, "other")}"'):
             said = await self.answer_one(client, sender, payload)
         self.moved['way="in"'] += len(payload or b"")
@@ -78,7 +78,7 @@ class NodePort(Port):
         return whole.place(self.shape, size)
 
     async def count(self) -> None:
-        """Has what is held counted, where that is due, by a thread; who asks waits a moment for it and no longer."""
+        """Start a count of what is held, in a thread, if it is due. Wait for a count under way, `MOMENT` at most."""
         if not self.counting and time.monotonic() > self.due:
             self.counting = asyncio.create_task(self.count_anew())
         if self.counting:
@@ -86,13 +86,13 @@ class NodePort(Port):
 
     async def count_anew(self) -> None:
         try:
-            with contextlib.suppress(sqlite3.OperationalError):  # such as a disk that is gone: the last figures stay
+            with contextlib.suppress(sqlite3.OperationalError):  # such as for a lost disk: the last figures remain
                 self.held = await self.node.store.asked(self.node.store.counts)
-        finally:  # whatever it was, such as a torn page: it is counted again
+        finally:  # after any fault, such as a torn page, too: it is counted again
             self.due, self.counting = time.monotonic() + FRESH, None
 
     def figures(self) -> dict[str, Any]:
-        """What the node holds and how much of the disk is free, its judges, and how far it is with what it mends."""
+        """Return figures of what the node holds, its disk, its judges, and the progress of recovery and scrubs."""
         node = self.node
         disk, room = shutil.disk_usage(node.store.path.parent), node.judges.room
         return {
@@ -111,8 +111,8 @@ class NodePort(Port):
         }
 
     async def numbers(self) -> bytes:
-        """The same in the text format of Prometheus, with what was asked."""
-        from . import metrics  # here alone: who is not asked for it does not load it
+        """Return the figures in the text format of Prometheus, with counts of requests."""
+        from . import metrics  # here, so that only nodes that are asked for it load it
 
         await self.count()
         gauges: dict[str, Any] = {

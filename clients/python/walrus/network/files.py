@@ -1,7 +1,7 @@
-"""Large contents, each in a file of its own: there is a file under a name once all of it is on the disk.
+"""Large contents, each in a file of its own, which has its final name only once all of it is on the disk.
 
-What a crash leaves without a name in the database, or half written, is swept: no file is written twice, and none is
-changed."""
+Files that a crash leaves half written, or without a row in the database, are removed by a sweep. No file is written
+twice or changed."""
 import contextlib
 import errno
 import itertools
@@ -12,12 +12,12 @@ from typing import Callable, Iterable, Iterator
 
 from .. import client, wire
 
-HALF = ".half"  # behind the name of a file that is being written
-PASSING = errno.EMFILE, errno.ENFILE, errno.ENOMEM, errno.EAGAIN  # faults of the system, not of a file
+HALF = ".half"  # suffix of a file that is being written
+PASSING = errno.EMFILE, errno.ENFILE, errno.ENOMEM, errno.EAGAIN  # temporary faults of the system, not of a file
 
 
 class Files:
-    """A folder of files, in folders by the first digits of what they are named for. Its calls hold up who calls."""
+    """A folder with 256 folders of files, by the first two digits of their blobs' identifiers. All calls block."""
 
     def __init__(self, folder: pathlib.Path):
         self.folder, self.own, self.numbers = folder, secrets.token_hex(8), itertools.count()
@@ -29,7 +29,7 @@ class Files:
         return self.folder / name[:2] / name
 
     def write(self, identifier: bytes, *payloads: client.Data) -> list[str]:
-        """Puts contents of a blob on the disk; their names."""
+        """Write contents of a blob to files and sync them; return their names. If a write fails, none of them stays."""
         paths = [self.path(f"{identifier.hex()}-{self.own}-{next(self.numbers)}") for _ in payloads]
         halves = [path.with_name(path.name + HALF) for path in paths]
         try:
@@ -56,7 +56,8 @@ class Files:
             os.close(opened)
 
     def read(self, name: str, size: int) -> client.Data:
-        """A content of a known size; empty where the file is gone, cannot be read or has another size."""
+        """Return a content of a known size; empty if the file is gone, cannot be read or has another size. Raises
+        `OSError` for a temporary fault of the system."""
         try:
             with open(self.path(name), "rb", buffering=0) as file:
                 if os.fstat(file.fileno()).st_size != size:
@@ -76,11 +77,11 @@ class Files:
                 self.path(name).unlink()
 
     def strays(self, is_named: Callable[[str], bool]) -> Iterator[tuple[str, int]]:
-        """Removes what nothing names, but for what this process wrote, which names or removes it; step by step, the
-        name and the size of each file that is removed."""
+        """Remove files that nothing names, and yield the name and size of each. Those that this process wrote stay, as
+        it names or removes them itself."""
         for folder in sorted(self.folder.iterdir()):
             entries = list[os.DirEntry[str]]()
-            with contextlib.suppress(OSError):  # it is no folder, or one of the system
+            with contextlib.suppress(OSError):  # it is no folder, or one that cannot be read
                 entries += os.scandir(folder)
             for entry in entries:
                 if self.own not in entry.name and not is_named(entry.name):

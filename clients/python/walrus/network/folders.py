@@ -1,4 +1,4 @@
-"""Folders over HTTP: a tar or a form goes in, and each file comes out under its path, as from a server of a site."""
+"""Folders over HTTP: clients send a tar or a form, and read each file at its path, as from a web server."""
 import asyncio
 import base64
 import html
@@ -21,10 +21,10 @@ from .shelf import LISTS, Shelf
 from .turns import Turns, owner_of
 
 OPEN = {"X-Content-Type-Options": "nosniff", "Referrer-Policy": "no-referrer"}
-SANDBOX = {**OPEN, "Content-Security-Policy": "sandbox allow-scripts allow-popups"}  # no page of the gateway's own
-OWN_HOST = {**OPEN, "Origin-Agent-Cluster": "?1"}  # nor does a site reach another one that is beside it
+SANDBOX = {**OPEN, "Content-Security-Policy": "sandbox allow-scripts allow-popups"}  # cannot act as the gateway's page
+OWN_HOST = {**OPEN, "Origin-Agent-Cluster": "?1"}  # a site cannot reach its neighbours either
 PATHS = "/v1/folders/"
-MOST, ROOM, LISTINGS = 10_000, 2_097_152, 2  # lines of a listing, and their bytes; listings that are made at once
+MOST, ROOM, LISTINGS = 10_000, 2_097_152, 2  # most lines and bytes of a listing; listings that are made at once
 HTML = {"Content-Type": "text/html; charset=utf-8"}
 FRONT = """<!DOCTYPE html><html lang="en"><head><meta charset="utf-8"><title>{title}</title>
 <meta name="viewport" content="width=device-width"><style>body {{ font-family: sans-serif; margin: 2em }}
@@ -34,7 +34,7 @@ td {{ padding: 0.1em 1em 0.1em 0 }} td + td {{ text-align: right }}</style></hea
 
 
 class Folders:
-    """The folders of a gateway. `site` is the host below which each has one of its own."""
+    """The folders of a gateway. Unless `site` is empty, each folder also has a host of its own below that host."""
 
     def __init__(self, reader: Reader, publisher: Publisher, shelf: Shelf, site: str):
         self.reader, self.publisher, self.shelf = reader, publisher, shelf
@@ -54,7 +54,7 @@ class Folders:
         return response
 
     async def put_file(self, request: web.Request) -> web.Response:
-        """Stores a file, and where it is to keep a name, the manifest of a folder that has it alone."""
+        """Stores a file; if the query has `filename`, also the manifest of a folder with this file alone."""
         publisher = self.publisher
         words = urllib.parse.parse_qs(request.rel_url.raw_query_string, True, errors="surrogateescape")
         if "filename" not in words:
@@ -77,20 +77,21 @@ class Folders:
         return await publisher.upload(request, min(publisher.options.most, LONGEST), costs, store, True)
 
     def site_of(self, name: str) -> dict[str, str]:
-        """The host of a folder of its own, where folders have some."""
+        """Returns the folder's own host as `site`, or nothing if folders have no hosts here."""
         return {"site": f"{label_of(bytes.fromhex(name))}.{self.site}"} if self.site else {}
 
     async def store(
         self, kind: str, costs: Costs, stream: AsyncIterator[bytes], epochs: int, stored: list[bytes]
     ) -> Told:
-        """Stores what comes as a folder of this media type; what is told of it, with its own host."""
+        """Stores a body of media type `kind` as a folder. Returns the JSON of the answer, with the folder's host."""
         publisher = self.publisher
         upload = Upload(publisher.writer, costs, epochs, publisher.options.reserve, stored)
         told = await upload.store_folder(kind, stream)
         return {**told, "folder": {**told["folder"], **self.site_of(told["blobId"])}}
 
     def at_site(self, request: web.BaseRequest) -> Optional[bytes]:
-        """The folder whose own host a request names; none where it names no such host."""
+        """Returns the identifier of the folder whose own host the request names, or None if it names another host.
+        Raises 404 if the label below `site` is no identifier, and 405 if the method does more than read."""
         host = re.sub(r"\.?(:[0-9]*)?$", "", request.headers.get("Host", "").lower())
         if not self.site or not host.endswith(f".{self.site}"):
             return None
@@ -106,13 +107,13 @@ class Folders:
         return name
 
     async def get(self, request: web.Request) -> web.StreamResponse:
-        """A file or a folder below /v1/folders/ID."""
+        """Answers a request for a file or a folder below /v1/folders/ID."""
         front, slash, path = request.rel_url.raw_path.removeprefix(PATHS).partition("/")
         name = named(request)
         return await self.answer(request, name, path, SANDBOX) if slash else moved(front, request)
 
     async def get_site(self, request: web.Request) -> web.StreamResponse:
-        """The same at a folder's own host."""
+        """Answers a request for a file or a folder at the folder's own host."""
         return await self.answer(request, request["site"], request.rel_url.raw_path.removeprefix("/"), OWN_HOST)
 
     async def answer(self, request: web.Request, name: bytes, raw: str, headers: dict[str, str]) -> web.StreamResponse:
@@ -123,15 +124,15 @@ class Folders:
             raise Problem(404, "the folder has no such file: its names are UTF-8") from None
         is_folder = not path or path.endswith("/")
         if place := manifest.find(f"{path}index.html" if is_folder else path):
-            del manifest  # which may be long: who takes a file of it slowly does not keep it
+            del manifest  # it may be long: a client that reads slowly must not keep it in memory
             return await self.send(request, place, headers)
         if is_folder and manifest.has(path):
             accepted = ",".join(request.headers.getall("Accept", []))
             is_json = "application/json" in accepted and "text/html" not in accepted
             headers = {**headers, **(JSON if is_json else HTML), "Cache-Control": "no-cache", "Vary": "Accept"}
             owner = owner_of(request)
-            async with self.reader.sendings.take(owner):  # a long one is on the disk until it is sent, as a piece is
-                async with self.listings.take(owner):  # it takes a while, beside what others ask
+            async with self.reader.sendings.take(owner):  # a long list is on disk until it is sent, as a piece is
+                async with self.listings.take(owner):  # making a list takes a while, beside other requests
                     run = asyncio.get_running_loop().run_in_executor
                     text = await run(LISTS, listing, name, manifest, path, is_json)
                 del manifest
@@ -146,21 +147,21 @@ class Folders:
         headers = {**FOREVER, **headers, "ETag": tag}
         if (found := self.reader.condition(request, tag, headers)) is not None:
             return found
-        is_head = request.method == "HEAD"  # for which the manifest says enough
+        is_head = request.method == "HEAD"  # HEAD needs only what the manifest has
         file = File(place.length, b"") if is_head else await self.shelf.file(place)
         return await self.reader.give(request, file, tag, headers, place.kind + charset)
 
 
 def moved(name: str, request: web.Request) -> web.Response:
-    """That what is asked for is a folder, whose path ends with a slash."""
+    """Returns a redirect from a folder's path without a slash at its end to the one with it."""
     query = f"?{request.rel_url.raw_query_string}" if request.rel_url.raw_query_string else ""
     place = f"./{urllib.parse.quote(urllib.parse.unquote_to_bytes(name))}/{query}"
     return web.Response(status=301, headers={**SANDBOX, "Location": place, "Cache-Control": "public, max-age=86400"})
 
 
 def listing(name: bytes, manifest: Manifest, folder: str, is_json: bool) -> bytes:
-    """What is in a folder, as JSON or as a page; in a file, where it is long. A manifest may have names that take nine
-    times their bytes."""
+    """Returns the contents of a folder as JSON or as a page. A long result is a mapped file without a name, as names of
+    a manifest may take nine times their bytes here."""
     lines, size, is_whole = list[bytes](), 0, True
     for it in manifest.within(folder):
         line = (json.dumps(entry(it, folder)) if is_json else row(it, folder)).encode()

@@ -1,5 +1,5 @@
-"""Forms of several files, as browsers and `curl -F` send them (multipart/form-data, RFC 7578): aiohttp reads them as
-they come."""
+"""Forms of several files, as browsers and `curl -F` send them (multipart/form-data, RFC 7578), parsed by aiohttp while
+they arrive."""
 import contextlib
 import email
 import email.utils
@@ -17,13 +17,13 @@ FAULTS = (
     AssertionError,
     RuntimeError,
     http_exceptions.HttpProcessingError,
-)  # at what is no form
-# A file that comes: its name, that of its field, and its bytes, which are read before the next file.
+)  # what aiohttp raises for a malformed form
+# A file of a form: its name, its field's name, and its bytes, which must be read before the next file.
 Sent = NamedTuple("Sent", [("name", str), ("field", str), ("parts", Parts)])
 
 
 async def files_of(kind: str, source: Source, asked: str) -> AsyncGenerator[Sent, None]:
-    """The files of a form of this media type. What is none is refused, with a word of what is asked."""
+    """Yields the files of a form of media type `kind`. Raises `Problem`, with `asked` as advice, if it is malformed."""
     try:
         told = email.message_from_string(f"Content-Type: {kind}\n\n")
         bound = told.get_boundary() or ""
@@ -35,7 +35,7 @@ async def files_of(kind: str, source: Source, asked: str) -> AsyncGenerator[Sent
         reader = MultipartReader({"Content-Type": f'multipart/form-data; boundary="{bound}"'}, source)  # type: ignore
         while part := await reader.next():
             if not isinstance(part, BodyPartReader):
-                raise Problem(400, f"a form has no forms in it: {asked}")
+                raise Problem(400, f"a form may not contain another form: {asked}")
             yield Sent(*names_in(part.headers.get("Content-Disposition", "")), parts_of(part, asked))
     await source.rest()
 
@@ -48,15 +48,15 @@ async def parts_of(part: BodyPartReader, asked: str) -> AsyncGenerator[bytes, No
 
 @contextlib.contextmanager
 def must_be_form(asked: str) -> Iterator[None]:
-    """Has what aiohttp stumbles over be told to who sent it."""
+    """Turns what aiohttp raises for a malformed form into a `Problem` with status 400."""
     try:
         yield
     except FAULTS:
-        raise Problem(400, f"the form breaks off, or is none: {asked}") from None
+        raise Problem(400, f"the form breaks off or is malformed: {asked}") from None
 
 
 def names_in(text: str) -> tuple[str, str]:
-    """The name of a file, and that of its field, in the Content-Disposition of a part."""
+    """Returns the names of a file and of its field in a part's Content-Disposition, or raises `Problem`."""
     told = email.message_from_string(f"Content-Disposition: {text}\n\n")
     try:
         text.encode()

@@ -144,7 +144,7 @@ class Founding:
 
     def remove(self, name: str) -> str:
         """Removes a node, a gateway or a user with its key; returns its host, or `users`. Its files may be gone
-        already, if an earlier call did not come to save the plan."""
+        already, if an earlier call ended before it saved the plan."""
         if name in self.plan["users"]:
             self.plan["users"].remove(name)
             remove_folder(self.folder / "users" / name)

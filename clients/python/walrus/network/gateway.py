@@ -1,4 +1,4 @@
-"""Blobs over HTTP: a publisher and an aggregator of a network, with its page and its numbers."""
+"""The gateway: stores and reads blobs over HTTP, and serves a page about the network and metrics."""
 import asyncio
 import collections
 import contextlib
@@ -35,7 +35,7 @@ from .uploads import Uploads
 
 __all__ = ["Gateway", "Options", "ending", "serve"]
 MMAP_THRESHOLD = -3  # an option of the C library's mallopt
-sslproto.SSLProtocol.max_size = 65_536  # as at nodes
+sslproto.SSLProtocol.max_size = 65_536  # bytes that each TLS connection holds ready, as at nodes; else 256 KiB
 POLICY = "default-src 'none'; style-src 'self'; script-src 'self'; connect-src 'self'; frame-ancestors 'none'"
 POLICY += "; form-action 'none'; base-uri 'none'"
 OWN = {**ALONE, "Content-Security-Policy": POLICY, "Cache-Control": "no-cache"}
@@ -46,7 +46,7 @@ STORING = (
     ("POST", "/v1/bundles"),
     ("POST", "/v1/uploads"),
 )
-TAKEN = dict.fromkeys([*STORING, ("PUT", "/v1/folders")], ["epochs", "for"])  # the words of queries
+TAKEN = dict.fromkeys([*STORING, ("PUT", "/v1/folders")], ["epochs", "for"])  # query parameters by method and path
 TAKEN |= {("GET", "/v1/blobs"): ["within", "after"], ("PUT", "/v1/blobs"): ["epochs", "for", "filename"]}
 RESTING = (
     "/v1/blobs",
@@ -56,27 +56,27 @@ RESTING = (
     "/v1/extend",
     "/v1/challenges",
     "/v1/status/",
-)  # what rests on what the ledger says now
+)  # prefixes of paths whose answers depend on the present state of the ledger
 PARTS = "page.css", "page.js", "store.js"
 PAGES = {"/": "page/page.html", "/v1/api": "openapi.yaml"} | {f"/{it}": f"page/{it}" for it in PARTS}
 
 
 def must_be_known(request: web.Request) -> None:
-    """Raises where the query of a request has a word that it does not take, or one twice."""
+    """Raises `Problem` if a request has a query parameter that it does not take, or one parameter twice."""
     if request.path.startswith(PATHS) and request.method in ("GET", "HEAD"):
-        return  # pages have words for themselves, such as app.js?version=3
+        return  # pages in folders use parameters of their own, such as app.js?version=3
     resource = request.match_info.route.resource
     taken = TAKEN.get((request.method, resource.canonical if resource else ""), [])
     unknown = [word for word in request.query if word not in taken]
     if request.match_info.http_exception is None and unknown:
         asked = f"it takes {', '.join(taken)}" if taken else "it takes none"
-        raise Problem(400, f"{unknown[0][:40]!r} is no word of this request's query: {asked}")
+        raise Problem(400, f"{unknown[0][:40]!r} is not a query parameter of this request: {asked}")
     if len(request.query) > len(set(request.query)):
-        raise Problem(400, "a word of the query stands twice")
+        raise Problem(400, "a query parameter occurs twice: send it once")
 
 
 class Gateway(Server):
-    """The HTTP service over one user's view of the network in a folder."""
+    """The HTTP service over one user's view of the network. `folder` has tokens.json unless options name another."""
 
     def __init__(self, network: Network, folder: pathlib.Path, options: Optional[Options] = None):
         super().__init__()
@@ -101,7 +101,7 @@ class Gateway(Server):
         self.log, self.each = log_to(options.log), collections.Counter[str]()
 
     async def listen(self, host: str = "127.0.0.1", port: int = 0) -> int:
-        """Answers from here on; the port."""
+        """Starts to answer requests, and returns the port."""
         app, publisher = (
             web.Application(middlewares=[self.answer, self.place, self.guard.check, self.sort]),
             self.publisher,
@@ -146,7 +146,7 @@ class Gateway(Server):
 
     @web.middleware
     async def answer(self, request: web.Request, handler: Callable[..., Awaitable[Any]]) -> web.StreamResponse:
-        """Has a request answered; what is wrong is told as JSON."""
+        """Passes a request on, turns expected errors into responses in JSON, and counts and times all responses."""
         request.protocol.first.cancel()  # type: ignore[attr-defined]
         faults = Problem, client.Failed, OSError, web.HTTPException
         method = request.method if request.method in hdrs.METH_ALL else "other"
@@ -161,7 +161,7 @@ class Gateway(Server):
 
     @web.middleware
     async def place(self, request: web.Request, handler: Callable[..., Awaitable[Any]]) -> web.StreamResponse:
-        """Knows what is asked of a folder's own host, at which there is nothing else."""
+        """Marks a request (`site`) that names a folder's own host: such a host serves that folder and nothing else."""
         if name := self.folders.at_site(request):
             request["site"] = name
         response: web.StreamResponse = await handler(request)
@@ -169,7 +169,7 @@ class Gateway(Server):
 
     @web.middleware
     async def sort(self, request: web.Request, handler: Callable[..., Awaitable[Any]]) -> web.StreamResponse:
-        """Has a request answered that has no unknown words, and for which the ledger is heard if it rests on that."""
+        """Checks the query, and that the ledger is followed if the answer depends on it; then passes a request on."""
         ASKING.set(owner_of(request))
         if "site" in request:
             self.must_follow()
@@ -190,7 +190,7 @@ class Gateway(Server):
         return as_json(self.watch.with_shards(named(request)))
 
     async def challenge(self, request: web.Request) -> web.Response:
-        """Has a node show that it holds its part of a blob."""
+        """Challenges a node to show that it holds its part of a blob; the response has the finding."""
         self.reader.must_stand(named(request))
         return as_json(await self.watch.challenge(named(request), request.match_info["node"]))
 
@@ -202,7 +202,7 @@ class Gateway(Server):
         return as_json({"ready": True})
 
     def must_follow(self) -> None:
-        """Raises where the ledger was not heard for so long that what it said then counts no more."""
+        """Raises `Problem` (503) if the ledger has not been heard for longer than `Options.stale` seconds."""
         away = self.watch.away()
         if away["stale"]:
             raise ledger_away(f"the ledger is away for {away['away']:.0f} s ({away['said']})")
@@ -220,7 +220,7 @@ class Gateway(Server):
         return await send_text(request, told, FRESH | HEADERS)
 
     async def rights(self, request: web.Request) -> web.Response:
-        """What whoever asks may do here: for the page, which shows what can be done."""
+        """Returns what the client may do here, so that the page offers only that."""
         told = self.publisher.rights(request, self.guard.refusal(request, STORE))
         return as_json(told | {"token": self.guard.tokens.all() is not None and "Authorization" not in request.headers})
 
@@ -231,14 +231,14 @@ class Gateway(Server):
 
 
 def keep_buffers() -> None:
-    """Has what comes and goes in parts of 256 KiB take memory that was used before. `walrus-net` has malloc map what is
-    64 KiB and more, which for 16 MiB that came took 43 ms of a processor, and 35 for all else."""
-    with contextlib.suppress(AttributeError):  # of a system with another C library
+    """Makes malloc reuse memory for transfer buffers of 256 KiB. As `walrus-net` sets it, it maps whatever is 64 KiB or
+    more: for an upload of 16 MiB that took 43 ms of processor time, and everything else 35 ms."""
+    with contextlib.suppress(AttributeError):  # other C libraries have no mallopt
         ctypes.CDLL(None).mallopt(MMAP_THRESHOLD, 524_288)
 
 
 def ending() -> asyncio.Event:
-    """What is set once a signal asks for an end."""
+    """Returns an event that is set once SIGINT or SIGTERM arrives."""
     told = asyncio.Event()
     for number in (signal.SIGINT, signal.SIGTERM):
         asyncio.get_running_loop().add_signal_handler(number, told.set)
@@ -248,7 +248,7 @@ def ending() -> asyncio.Event:
 async def serve(
     access: Union[pathlib.Path, Access], host: str, port: int, options: Options, told: asyncio.Event
 ) -> int:
-    """Runs a gateway until it is told to end."""
+    """Runs a gateway until `told` is set, and returns 0. Raises if it can no longer follow the ledger or ask nodes."""
     keep_buffers()
     async with Network(access, seconds=options.patience, kept=True) as network:
         gateway = Gateway(network, network.authority.parent, options)
@@ -263,8 +263,8 @@ async def serve(
             if network.lost:
                 raise Unreachable(f"the gateway must stop, as it cannot follow the ledger: {network.lost}")
             if gateway.watch.task.done() and (fault := gateway.watch.task.exception()):
-                said = f"{type(fault).__name__}: {fault}"  # without it a gateway would tell old news of the nodes
-                raise RuntimeError(f"the gateway must stop, as it asks the nodes no more: {said}")
+                said = f"{type(fault).__name__}: {fault}"  # if it went on, it would report old states of the nodes
+                raise RuntimeError(f"the gateway must stop, as it can no longer ask the nodes: {said}")
         finally:
             await gateway.close()
     return 0

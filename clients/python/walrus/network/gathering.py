@@ -1,5 +1,5 @@
-"""A folder that comes over HTTP waits in a file without a name until all of it has come, so that nothing is stored of
-one that is refused. Then large files are stored, small ones in packs, and the manifest last."""
+"""Receives a folder over HTTP. Its bytes wait in a file without a name until the last one has arrived, so that nothing
+of a refused folder is stored. Then large files are stored, small ones in packs, and the manifest last."""
 import asyncio
 import contextlib
 import copy
@@ -19,7 +19,7 @@ from .problems import Problem
 from .shares import Charge, count_of
 from .source import Source
 
-AT_ONCE, AHEAD = 16, 4  # folders that come at once; files and packs of one that are stored at once
+AT_ONCE, AHEAD = 16, 4  # folders received at once; files and packs of one folder that are stored at once
 FULL = (
     "the folder is not stored: the gateway keeps all of it on its disk until the last name is known, and has too little"
     " room there; use walrus-net store FOLDER, which checks the names first and sends one file after the other"
@@ -27,27 +27,27 @@ FULL = (
 
 
 class Costs(Charge):
-    """What a folder takes of a share: its bytes as they come, and in the end what was stored and is new."""
+    """What a folder costs of a token's share: its bytes as they arrive, in the end the bytes stored that are new."""
 
     def __init__(self, charge: Charge, least: int = 1):
         super().__init__(charge.shares, charge.token, charge.epoch)
-        self.stored, self.count, self.least = 0, 0, least  # what is stored now; blobs that it will be at least
+        self.stored, self.count, self.least = 0, 0, least  # bytes and blobs stored; the least number of blobs
 
     def replace(self, size: int) -> None:
         self.take(size, self.stored, self.count)
         self.size = size
 
     def take(self, size: int, stored: int, count: int) -> None:
-        """Takes what a folder costs of which so many bytes came, and so much is stored."""
+        """Charges for a folder of which `size` bytes have arrived, and `stored` bytes in `count` blobs are stored."""
         self.set_to(max(size, stored), max(self.least, count))
 
     def more(self, size: int, count: int) -> None:
-        """Takes what so many bytes and blobs more cost; raises as `add` does, and then they do not count."""
+        """Charges for `size` more bytes and `count` more blobs. Raises as `add` does; then they are not counted."""
         self.take(self.size, self.stored + size, self.count + count)
         self.stored, self.count = self.stored + size, self.count + count
 
     def less(self, size: int, count: int) -> None:
-        """Has so many not count any more, which is given back with what is taken next."""
+        """Stops counting these bytes and blobs. The share gets them back with the next charge."""
         self.stored, self.count = self.stored - size, self.count - count
 
     def settle(self, is_stored: bool, is_new: bool) -> None:
@@ -55,16 +55,16 @@ class Costs(Charge):
 
 
 class Storing:
-    """Files that are stored together until one epoch; what is certified of them comes to `stored`."""
+    """Files that are stored together until the same epoch. Identifiers of certified pieces are added to `stored`."""
 
     def __init__(self, writer: Writer, costs: Costs, epochs: int, stored: list[bytes]):
         self.writer, self.costs, self.stored, self.is_new = writer, costs, stored, False
         self.until = writer.network.ledger.writing_epoch + epochs
-        self.end = LAST_UNTIL  # the first epoch in which one of those that are stored is not kept
+        self.end = LAST_UNTIL  # the first epoch in which one of the stored files is not kept
 
     async def store(self, stream: AsyncIterator[bytes]) -> Told:
-        """Stores a file until the epoch that was said as the first one began to come. Each part counts before it is
-        stored, and of a file that fails its whole pieces alone."""
+        """Stores a file until the epoch that was fixed when the first one began to arrive. Each part is charged before
+        it is stored; if the file fails, only its whole pieces remain charged."""
         size = 0
 
         async def counted() -> AsyncIterator[bytes]:
@@ -78,7 +78,7 @@ class Storing:
         try:
             epochs = max(0, self.until - self.writer.network.ledger.writing_epoch)
             told = await self.writer.store(counted(), epochs, self.stored)
-        except BaseException:  # such as that another file of the folder failed
+        except BaseException:  # for example, another file of the folder failed
             whole = max(0, size - 1) // PIECE
             self.costs.less(size - whole * PIECE, count_of(size) - whole)
             raise
@@ -90,7 +90,7 @@ class Storing:
         return told
 
     async def store_named(self, path: str, kind: str, stream: AsyncIterator[bytes]) -> Told:
-        """Stores a file, and beside it the manifest of a folder that has it alone, under this name and media type."""
+        """Stores a file, and the manifest of a folder that has this file alone, as `path` with media type `kind`."""
         told = await self.store(stream)
         size, file = told["size"], bytes.fromhex(told["blobId"])
         offset = 0 if 0 < size <= SMALL else None  # a small file is a pack of its own
@@ -99,22 +99,22 @@ class Storing:
         return self.of_all(told) | {"named": {"folder": folder["blobId"], "type": kind}}
 
     def of_all(self, told: Told) -> Told:
-        """What is told of one file, as of all: whether anything is new, and how long all of it is kept."""
+        """Returns the answer for one file with what is true of all: whether any is new, and until when all are kept."""
         return {**told, "alreadyCertified": not self.is_new, "endEpoch": self.end}
 
 
 class Spool(pieces.Spool):
-    """What comes of a folder."""
+    """Holds the bytes of a folder as they arrive."""
 
     full = FULL
 
     def cut(self, end: int) -> None:
-        """Has what comes next take the place of what came behind this one."""
+        """Drops everything from offset `end` on: what arrives next takes its place."""
         del self.kept[max(0, end - self.start) :]  # noqa: E203
         self.start = min(self.start, end)
 
     async def read(self, *spans: tuple[int, int]) -> bytes:
-        """What was written at some places, each with its length, one behind the other."""
+        """Returns the bytes at these (length, offset) spans, concatenated; `flush` must have written them."""
 
         def read() -> bytes:
             with self.turn:
@@ -125,15 +125,15 @@ class Spool(pieces.Spool):
 
 
 class Upload(Storing):
-    """A folder that comes. `reserve` is the part of the disk that is left free."""
+    """The upload of one folder. `reserve` is the fraction of the disk that stays free while it arrives."""
 
     def __init__(self, writer: Writer, costs: Costs, epochs: int, reserve: float, stored: list[bytes]):
         super().__init__(copy.copy(writer), costs, epochs, stored)
         self.folder, self.spool = Folder(), Spool(reserve)
-        self.writer.reserve = 0.0  # once all of it has come, nothing keeps it from being stored
+        self.writer.reserve = 0.0  # a folder that has arrived whole is not refused for lack of room
 
     async def store_folder(self, kind: str, stream: AsyncIterator[bytes]) -> Told:
-        """Stores what comes as a folder of this media type, once all of it has come, and the manifest last."""
+        """Receives a whole body of media type `kind`, then stores its files, and the manifest last."""
         try:
             async with contextlib.aclosing(opened(kind)(Source(stream))) as files:
                 async for coming in files:
@@ -151,9 +151,9 @@ class Upload(Storing):
             self.spool.close()
 
     async def take(self, coming: Coming) -> None:
-        """Keeps the next file until it is known which others come."""
+        """Keeps the next file in the spool until all names are known."""
         path, start, digest = coming.path, self.spool.end, hashlib.sha256()
-        await asyncio.sleep(0)  # many files come in one part, and others go on between them
+        await asyncio.sleep(0)  # many files may arrive in one part: other tasks run between them
         try:
             self.folder.begin(path)
         except Wrong as fault:
@@ -167,11 +167,11 @@ class Upload(Storing):
             self.folder.add_large(path, size, start)
         elif size:
             if self.folder.knows(digest.digest()):
-                self.spool.cut(start)  # the next file takes its place
+                self.spool.cut(start)  # its bytes are there: the next file takes its place
             self.folder.add_small(path, size, digest.digest(), start)
 
     async def kept(self, length: int, start: int) -> AsyncIterator[bytes]:
-        """What is in the spool from there on, so that others have their turn between its parts."""
+        """Yields `length` bytes of the spool from `start` on, in parts: other tasks run between them."""
         for at in range(start, start + length, WRITTEN):
             yield await self.spool.read((min(WRITTEN, start + length - at), at))
 
@@ -184,7 +184,7 @@ class Upload(Storing):
         self.folder.place(number, bytes.fromhex(told["blobId"]))
 
     def parts(self) -> Iterator[Coroutine[Any, Any, None]]:
-        """Stores each large file, and each pack."""
+        """Yields the coroutines that store each large file, and each pack."""
         for file in self.folder.large():
             yield self.store_file(*file)
         for number, pack in enumerate(self.folder.packs()):
@@ -196,7 +196,7 @@ async def once(data: bytes) -> AsyncIterator[bytes]:
 
 
 async def spread(folder: Folder) -> AsyncIterator[bytes]:
-    """The manifest of a folder, so that others have their turn between its parts."""
+    """Yields the manifest of a folder in parts: other tasks run between them."""
     for part in folder.manifest():
         await asyncio.sleep(0)
         yield part

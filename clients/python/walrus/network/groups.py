@@ -1,4 +1,4 @@
-"""What runs beside each other, and ends together: where one fails, the others are ended, and its fault is raised."""
+"""Groups of tasks that run at once: if one fails, the others are cancelled, and its exception is raised."""
 import asyncio
 from typing import Any, Coroutine, Iterable, Iterator, TypeVar
 
@@ -6,7 +6,7 @@ Result = TypeVar("Result")
 
 
 async def all_of(works: Iterable[Coroutine[Any, Any, Result]]) -> list[Result]:
-    """What each of these returns, all of which run at once."""
+    """Runs all of these at once, and returns what each returns."""
     try:
         async with asyncio.TaskGroup() as group:
             tasks = [group.create_task(work) for work in works]
@@ -16,7 +16,7 @@ async def all_of(works: Iterable[Coroutine[Any, Any, Result]]) -> list[Result]:
 
 
 async def several(works: Iterator[Coroutine[Any, Any, object]], width: int) -> None:
-    """Runs these, so many at once; each is asked for when its turn comes."""
+    """Runs these, at most `width` at once; each is taken from the iterator only when its turn comes."""
 
     async def go_on() -> None:
         for work in works:
@@ -26,7 +26,7 @@ async def several(works: Iterator[Coroutine[Any, Any, object]], width: int) -> N
 
 
 def first_of(fault: Exception) -> Exception:
-    """The first fault of a group, or the fault itself."""
+    """Returns the first exception of a group, or the exception itself if it is no group."""
     while isinstance(fault, ExceptionGroup):
         fault = fault.exceptions[0]
     return fault

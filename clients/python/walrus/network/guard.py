@@ -1,9 +1,9 @@
-"""Who may ask a gateway for what: by a token, or without a file of tokens whoever is on its own machine.
+"""Access control of a gateway: rights come from a token; without a file of tokens only its own machine may store.
 
-A browser sends what another page tells it to, and with no token of ours: so what stores and shows no token must be
-asked of the gateway by a name of its own, and by no page but its own. At an address that not everybody reaches, what
-reads and shows no token must be asked by such a name too, unless it is a file: other names may lead there, and the
-pages under them read it all."""
+Any web page can make a browser send requests, though without a token of the gateway. So a request without a token
+that would store must use one of the gateway's own names, and must not come from another page. At an address that not
+everybody reaches, a request without a token that reads something other than a file by its identifier must use such a
+name too: otherwise a page could point its own name at that address (DNS rebinding) and read everything there."""
 import collections
 import contextlib
 from typing import Any, Awaitable, Callable, Iterator, Optional
@@ -19,28 +19,28 @@ from .tokens import ANYONE, READ, STORE, Token, Tokens
 SAFE = "GET", "HEAD", "OPTIONS"
 PASSED_ON = "x-forwarded-for", "forwarded", "via", "x-real-ip"
 FREE = "/", "/page.css", "/page.js", "/store.js", "/v1/api", "/v1/rights", "/livez", "/readyz"
-UPLOADS = "/v1/uploads"  # which are for whoever may store, whatever is asked of them
-BY_NAME = "/v1/blobs/", "/v1/bundles/", "/v1/folders/"  # what is read here nobody finds who does not know its name
+UPLOADS = "/v1/uploads"  # every request for these needs the right to store
+BY_NAME = "/v1/blobs/", "/v1/bundles/", "/v1/folders/"  # what is read here is found only by those who know its name
 EXPOSED = "ETag, Content-Range, Location, Repr-Digest, Retry-After, Upload-Offset, Upload-Complete, Upload-Limit"
 SENT = "Authorization, Content-Type, Range, If-Match, If-None-Match, If-Range, Digest, Repr-Digest, Want-Repr-Digest"
 SENT += ", Upload-Offset, Upload-Complete, Upload-Length, Upload-Draft-Interop-Version"
 ASKED = {"WWW-Authenticate": 'Bearer realm="walrus"'}
 INVALID = {"WWW-Authenticate": 'Bearer realm="walrus", error="invalid_token"'}
 NO_TOKEN = "only its own machine may store here, unless there are tokens (walrus-net token)"
-MARKS, TYPE = 256, 256  # commas, semicolons and ampersands in a request's query and fields; bytes of its Content-Type
+MARKS, TYPE = 256, 256  # the most commas, semicolons and ampersands in query and fields; the most bytes of Content-Type
 
 
 class Crowd:
-    """Requests that are being answered, by who asks: at most so many of one, as those go on whose clients are gone."""
+    """Counts the unanswered requests of each client. They are bounded, as requests of disconnected clients continue."""
 
     def __init__(self, most: int):
         self.most, self.counts = most, collections.Counter[str]()
 
     @contextlib.contextmanager
     def one(self, whom: str) -> Iterator[None]:
-        """Counts one while it is answered; raises where it is one too many."""
+        """Counts a request while the context runs; raises `Problem` (429) if the client has too many."""
         if self.counts[whom] >= self.most:
-            text = f"{self.most} requests of yours are not answered yet: come again once some are"
+            text = f"{self.most} requests of yours are not answered yet: try again once some are"
             raise Problem(429, text, {"Retry-After": "5"})
         self.counts[whom] += 1
         try:
@@ -52,7 +52,7 @@ class Crowd:
 
 
 class Guard:
-    """The rules of a gateway."""
+    """The access rules of a gateway."""
 
     def __init__(self, exposure: Options, tokens: Tokens):
         self.exposure, self.tokens, self.crowd = exposure, tokens, Crowd(exposure.connections)
@@ -60,14 +60,14 @@ class Guard:
         self.names, self.proxies = {it.lower() for it in exposure.names}, {*exposure.proxies}
 
     def address(self, request: web.BaseRequest) -> str:
-        """Where a request is from: of a server before the gateway what it says, else the connection's other end."""
+        """Returns the client's address: what a trusted proxy says, or else the other end of the connection."""
         peer = request.remote or ""
         told = ",".join(request.headers.getall("X-Forwarded-For", [])).rpartition(",")[2].strip()
         return told if told and peer in self.proxies else peer
 
     @web.middleware
     async def check(self, request: web.Request, handler: Callable[..., Awaitable[Any]]) -> web.StreamResponse:
-        """Has a request answered if it may be asked; raises what is wrong with it."""
+        """Passes a request on if it is allowed and within the limits; otherwise raises `Problem`."""
         address = request["address"] = self.address(request)
         keys = [f"address {key_of(address)}"]
         self.must_be_few(keys)
@@ -88,12 +88,12 @@ class Guard:
         return response
 
     def must_be_few(self, keys: list[str]) -> None:
-        """Counts a request of a client that is known by these; raises where it is one too many."""
+        """Counts a request of the client with these keys; raises `Problem` (429) if it comes too soon."""
         if seconds := self.limits.admit(keys):
-            raise Problem(429, f"too much at once: come again in {seconds} s", {"Retry-After": str(seconds)})
+            raise Problem(429, f"too much at once: try again in {seconds} s", {"Retry-After": str(seconds)})
 
     def shown(self, request: web.Request) -> Optional[Token]:
-        """The token that a request shows, where there are tokens."""
+        """Returns the token that a request shows, or None. Raises `Problem` (401) if there are tokens, but not this."""
         fields: list[str] = request.headers.getall("Authorization", [])
         if not fields or self.tokens.all() is None:
             return None
@@ -123,7 +123,7 @@ class Guard:
             request["token"] = holder
 
     def refusal(self, request: web.Request, right: str) -> str:
-        """Why who makes a request may not do what needs a right; empty where they may."""
+        """Returns why the client of a request does not have a right, or an empty text if it has."""
         try:
             self.must_be_allowed(request, request["token"], right)
         except Problem as problem:
@@ -131,19 +131,19 @@ class Guard:
         return ""
 
     def may_be_led(self, request: web.Request) -> bool:
-        """Whether a page that cannot reach this address may have led a browser here that does: by a name of its own,
-        which it has for whatever address it likes. On loopback, addresses must be the gateway's own, too."""
+        """Whether DNS rebinding may have led a browser here: a page that cannot reach this address points a name of its
+        own at it. On inner networks an address in `Host` rules that out; on loopback it must be the gateway's own."""
         place = self.place(request)[0]
         return is_loopback(place) or is_inner(place) and not is_address(request.headers.get("Host", ""))
 
     def must_be_named(self, request: web.Request) -> None:
-        """Raises where a browser may have been led here by another name for this machine."""
+        """Raises `Problem` (421) if `Host` is no name of this gateway."""
         host = request.headers.get("Host", "").lower()
         if not self.is_own(request, host):
-            raise Problem(421, f"{host[:80]!r} is no name of this gateway: tell it with --names, or show a token")
+            raise Problem(421, f"{host[:80]!r} is no name of this gateway: add it with --names, or show a token")
 
     def must_be_own(self, request: web.Request) -> None:
-        """Raises where a browser may have been led here by another page."""
+        """Raises `Problem` (403) if a page of another origin may have made the browser send this request."""
         origin, site = request.headers.get("Origin"), request.headers.get("Sec-Fetch-Site", "none")
         scheme, _, name = (origin or "").lower().partition("://")
         own = scheme in ("http", "https") and self.is_own(request, name)
@@ -151,7 +151,7 @@ class Guard:
             raise Problem(403, "a page from elsewhere may store nothing here: show a token")
 
     def place(self, request: web.Request) -> tuple[str, int]:
-        """The address and the port of this machine that a request came to."""
+        """Returns the local address and port at which a request arrived."""
         found = request.transport.get_extra_info("sockname") if request.transport else None
         host, port = (found or ("", 0))[:2]
         return host.removeprefix("::ffff:"), port
@@ -165,7 +165,7 @@ class Guard:
         return name in [f"{it}:{port}" for it in hosts] + (hosts if port in (80, 443) else [])
 
     def options(self, request: web.Request) -> web.Response:
-        """What can be asked of a path, also by pages from elsewhere."""
+        """Answers OPTIONS with the methods of a path; `share` adds what pages of other origins need."""
         fault = request.match_info.http_exception
         if "site" in request:
             return web.Response(status=204, headers={"Allow": "GET, HEAD, OPTIONS"})
@@ -175,8 +175,8 @@ class Guard:
         return web.Response(status=204, headers={"Allow": methods})
 
     async def keep(self, request: web.Request, response: web.StreamResponse) -> None:
-        """Lets caches that several people share keep nothing for which one of them had to show a token, and if
-        folders have hosts of their own, give what they keep to nobody who asks another host."""
+        """Makes shared caches keep nothing for which a token had to be shown; and if folders have hosts of their own,
+        keep the responses of different hosts apart (`Vary: Host`)."""
         told, known = response.headers.get(hdrs.CACHE_CONTROL, ""), self.tokens.all()
         if self.exposure.sites and "no-store" not in told:
             response.headers[hdrs.VARY] = ", ".join([*response.headers.getall(hdrs.VARY, []), hdrs.HOST])
@@ -184,7 +184,7 @@ class Guard:
             response.headers[hdrs.CACHE_CONTROL] = told.replace("public", "private", 1)
 
     async def share(self, request: web.Request, response: web.StreamResponse) -> None:
-        """Lets pages from elsewhere have a response: what is read by its name, and what a token was shown for."""
+        """Lets pages of other origins read a response (CORS) if it is read by its name, or if a token was shown."""
         by_name = is_by_name(request) and request.method in SAFE
         asks = request.method == "OPTIONS" and response.status == 204
         if asks and (by_name or self.tokens.all() is not None):
@@ -201,8 +201,8 @@ class Guard:
 
 
 def must_be_brief(request: web.BaseRequest) -> None:
-    """Raises if the head of a request would take long to parse: each range, tag and word of a query takes its time, and
-    each parameter of a media type as much as there is before it."""
+    """Raises `Problem` (431) if a request's head would take long to parse: each range, tag and query parameter takes
+    time, and each parameter of a media type as much as the text before it."""
     texts = [request.rel_url.raw_query_string, *request.headers.values()]
     if sum(text.count(mark) for text in texts for mark in ",;&") > MARKS:
         said = f"the head of the request has more than {MARKS} commas, semicolons and ampersands"
@@ -212,10 +212,10 @@ def must_be_brief(request: web.BaseRequest) -> None:
 
 
 def is_read(request: web.Request) -> bool:
-    """Whether a request asks for what may be read."""
+    """Whether a request needs only the right to read."""
     return request.method in SAFE and ("site" in request or not request.path.startswith(UPLOADS))
 
 
 def is_by_name(request: web.BaseRequest) -> bool:
-    """Whether a request is for what nobody finds who does not know its name."""
+    """Whether a request is for something that is found only by those who know its name."""
     return "site" in request or request.path.startswith(BY_NAME)

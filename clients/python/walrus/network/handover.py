@@ -1,4 +1,4 @@
-"""What a node owes as the ledger goes on: what its shards must hold, of this committee and the next, and its words."""
+"""A node's duties as the ledger goes on: what its shards of both committees must hold, and the entries it must post."""
 import asyncio
 import gc
 import sys
@@ -14,15 +14,16 @@ from .recovery import MANY, Lack, attest, by_lanes, passing, settle
 if TYPE_CHECKING:
     from .node import Node
 
-TOLD = 10  # blobs that are named where many are lacking
-SOON, LATEST = 0.5, 10.0  # seconds until what was lost is tried anew
-LATER = 60.0  # seconds until an address that was refused is told again
+TOLD = 10  # missing blobs that a message names at most
+SOON, LATEST = 0.5, 10.0  # seconds until lost blobs are tried again: at first, at most
+LATER = 60.0  # seconds until a refused address is posted again
 
 
 async def survey(node: "Node") -> tuple[dict[int, dict[bytes, bool]], list[bytes]]:
-    """By epoch the blobs for which a shard is not settled though they are certified in the committee of now, or though
-    the node has vouched for them, and whether it has; and those of the writing epoch for which all shards are settled
-    and it has not vouched. Of each it tells no more than MANY."""
+    """Return by epoch the blobs that the node owes and a shard lacks, with whether the node has vouched for each; and
+    the blobs of the writing epoch that all shards hold and on which it has not voted. A node owes the blobs for which
+    it has vouched, by a vote or by `ready`, and in the present epoch all that are certified. At most MANY blobs of an
+    epoch are in each."""
     ledger, lacks, unsaid = node.ledger, dict[int, dict[bytes, bool]](), list[bytes]()
     for epoch, side in list(node.sides.items()):
         ready = epoch == ledger.epoch and not ledger.moving and set(side) <= ledger.ready
@@ -48,14 +49,14 @@ async def survey(node: "Node") -> tuple[dict[int, dict[bytes, bool]], list[bytes
 
 
 async def heal(node: "Node") -> None:
-    """Recovers what the shards lack, once the whole ledger is heard: at once what the node has vouched for, and else
-    what they lacked for some time; or all that is certified, if so many blobs are lacking that they are not listed.
-    Gives the node's word for what it was late with."""
+    """Recover again and again what the shards lack, once the whole ledger is heard: at once the blobs for which the
+    node has vouched, others if they were missing in the last round too; or all that are certified, if more are missing
+    than are listed. Then vote on what was recovered, and on what it held without a vote in the last round too."""
     await node.until(lambda _: node.caught_up, None)
     clock, pause, lost = asyncio.get_running_loop().time, 0.0, None  # type: Any, float, Optional[int]
     lacked, late = dict[int, dict[bytes, bool]](), set[bytes]()
     while True:
-        async with passing(node.name, "what is lacking is recovered later", LATEST):
+        async with passing(node.name, "missing blobs are recovered later", LATEST):
             begun = clock()
             lacks, unsaid = await survey(node)
             taken = clock() - begun
@@ -65,21 +66,21 @@ async def heal(node: "Node") -> None:
             for epoch, blobs in lacks.items():
                 due = [it for it, said in blobs.items() if said or it in lacked.get(epoch, ())]
                 steps: list[Collection[bytes] | Owed] = [due]
-                if len(blobs) >= MANY:  # then all that is certified: behind what is urgent, unless all of it is
+                if len(blobs) >= MANY:  # then all that is certified: after urgent ones, unless all are urgent
                     steps.insert(int(len(due) < MANY), node.ledger.blobs.owed(epoch, epoch))
                 for owed in steps:
                     await settle(node, epoch, owed)
             recovered = lacks.get(node.ledger.writing_epoch, {})
             await acknowledge(node, dict.fromkeys([*recovered, *late.intersection(unsaid), *node.unattested]))
             lacked, late = lacks, {*unsaid}
-            gc.collect()  # connections whose handshake did not come, which Python would keep for long
+            gc.collect()  # frees connections whose handshake never came, which Python would keep for long
             await asyncio.sleep(max(pause if urgent else node.settings.heal, 20 * taken))
             pause = min(max(2 * pause, SOON), LATEST) if urgent else 0.0
 
 
 def tell_lost(node: "Node", vouched: list[bytes], lost: Optional[int], urgent: bool, are_more: bool) -> int:
-    """Says, at the start, what the disk has lost of what the node vouched for, and once it is recovered; how many blobs
-    it was, if there are no more than were counted."""
+    """Report in the first round the blobs that the node has vouched for and its disk lacks, and later that these are
+    recovered. Return `lost` for the next round: how many there were among those listed, or 0 once that is reported."""
     if lost is None and vouched:
         more = f" and {len(vouched) - TOLD} more" if len(vouched) > TOLD else ""
         names = " ".join(it.hex() for it in vouched[:TOLD])
@@ -95,8 +96,8 @@ def tell_lost(node: "Node", vouched: list[bytes], lost: Optional[int], urgent: b
 
 
 async def acknowledge(node: "Node", identifiers: Iterable[bytes]) -> None:
-    """Posts the node's word for what all its shards of the writing committee hold, or for a proof that all of them hold
-    in its place, where it has not done so."""
+    """Acknowledge blobs that all the node's shards of the writing committee hold, and attest those of which all hold a
+    proof of bad encoding instead, unless the ledger has that vote."""
     ledger, side = node.ledger, node.sides.get(node.ledger.writing_epoch, {})
 
     async def vouch(lack: Lack) -> None:
@@ -115,9 +116,9 @@ async def acknowledge(node: "Node", identifiers: Iterable[bytes]) -> None:
 
 
 async def tell_address(node: "Node", host: str, port: str) -> None:
-    """Tells the ledger where this node is reached. A refusal, such as of a share that is used up, does not end what
-    holds blobs: others ask where the ledger says already, and it is told again until it is taken. Who is expelled ends,
-    as it hears nothing more."""
+    """Post the address of this node until the ledger accepts it. A refusal, such as of a share that is used up, does
+    not end a node that holds blobs: others still ask at its earlier address. A node that is expelled ends anyway, as
+    it hears nothing more."""
     said = ""
     while True:
         try:
@@ -127,45 +128,45 @@ async def tell_address(node: "Node", host: str, port: str) -> None:
             if str(fault) != said:
                 said = str(fault)
                 text = f"the ledger does not take the address {host}:{port}, so the one that it has stays: {said}"
-                print(f"{node.name}: {text}; it is told again later", file=sys.stderr, flush=True)
+                print(f"{node.name}: {text}; it is posted again later", file=sys.stderr, flush=True)
         await asyncio.sleep(LATER)
 
 
 async def tell_past(node: "Node") -> None:
-    """Tells the ledger each epoch that is on the disk here, so that what was before may go."""
+    """Post each epoch change that this disk has (`past`), so that the ledger may drop the entries before it."""
     name, ledger = node.name, node.ledger
     while True:
         await node.until(lambda it: name in it.nodes and it.past.get(name, 0) < it.epoch, None)
         try:
             await node.recorders.post(entry_key(name, PAST, ledger.epoch), None)
         except Refused:
-            await asyncio.sleep(1)  # the epoch changes just now
+            await asyncio.sleep(1)  # the epoch is just changing
 
 
 async def hand_over(node: "Node") -> None:
-    """Does the node's part of each move."""
+    """Do this node's part in each handover."""
     while True:
         await node.until(lambda ledger: ledger.moving, None)
         await move(node)
 
 
 async def move(node: "Node") -> None:
-    """Does this node's part of the move that is under way, until it is finished."""
+    """Do this node's part in the handover under way until it ends: recover what is missing, post ready and finish."""
     ledger, pause, said, clock = node.ledger, 0.2, 0, asyncio.get_running_loop().time
     epoch = ledger.epoch + 1
     while ledger.moving and ledger.epoch + 1 == epoch:
         begun = clock()
-        own, revision = set(node.sides.get(epoch, ())), ledger.revision  # none until the begin is on the disk
+        own, revision = set(node.sides.get(epoch, ())), ledger.revision  # empty until `begin` is on the disk
         async with passing(node.name, f"epoch {epoch}"):
             left = 0 if own <= ledger.ready else await settle(node, epoch, ledger.must_hold())
             if left and left != said:
-                print(f"{node.name}: epoch {epoch}: {left} blobs are lacking still", file=sys.stderr, flush=True)
+                print(f"{node.name}: epoch {epoch}: {left} blobs are still missing", file=sys.stderr, flush=True)
             said = left
             if own and not left and not own <= ledger.ready:
                 await node.recorders.post(entry_key(node.name, "ready", epoch))
             if own and ledger.moving and len(ledger.ready) >= ledger.quorum:
                 await node.recorders.post(entry_key(node.name, "finish", epoch))
-        if said and ledger.moving:  # it looks at all live blobs again: others have turns, however many entries come
+        if said and ledger.moving:  # a pause, as each round reads all live blobs, however many entries come
             await asyncio.sleep(min(LATEST, 2 * (clock() - begun)))
         await node.until(lambda it: it.revision != revision, pause)
         pause = min(2 * pause, 5.0)

@@ -1,4 +1,4 @@
-"""How long a file is, from the metadata of its blob alone wherever that tells it."""
+"""Lengths of files, taken from the metadata of their blobs alone if that settles them."""
 from typing import Optional
 
 from .. import client
@@ -8,18 +8,18 @@ from .chunks import HEAD, NAME
 from .client import Network
 from .judge import name_of
 
-KNOWN = 65_536  # lengths that are kept
+KNOWN = 65_536  # the most lengths that are kept; the oldest one is dropped first
 
 
 class Lengths:
-    """The lengths of blobs, which are kept once they are known."""
+    """The lengths of blobs, kept once they are known."""
 
     def __init__(self, network: Network):
         self.network = network
         self.known = dict[bytes, int]()
 
     async def of_blob(self, identifier: bytes) -> Optional[int]:
-        """The length of a blob; None where no metadata is heard."""
+        """Returns the length of a blob; None if no shard returns its metadata."""
         length = self.known.get(identifier)
         if length is None and (length := await self.ask(identifier)) is not None:
             self.known[identifier] = length
@@ -28,15 +28,15 @@ class Lengths:
         return length
 
     async def of_file(self, identifier: bytes) -> Optional[int]:
-        """The length of a file; None where its blob may be a list of pieces, or no metadata is heard."""
+        """Returns the length of a file; None if its blob may be a list of pieces, or if no metadata is heard."""
         length = await self.of_blob(identifier)
         return None if length is None or length > HEAD.size and not (length - HEAD.size) % NAME else length
 
     async def ask(self, identifier: bytes) -> Optional[int]:
-        """Asks f+1 shards, and others where these are late or of no use, for what brings little beside the metadata,
-        which its name proves."""
+        """Asks f+1 shards, and others if these are late or of no use, for a symbol that none has: they return little
+        beside the metadata, which the identifier verifies. Returns the length in it, or None."""
         ledger = self.network.ledger
-        wanted = client.Symbol(identifier, client.PRIMARY, 999)  # which no shard has, or one of 1,000
+        wanted = client.Symbol(identifier, client.PRIMARY, 999)  # only the last shard of 1,000 could have it
         seats = self.network.peers.seats(ledger.owners(ledger.home_epoch(identifier)), ledger.faults)
         listening = client.Listening(seats, Asked.of(client.write_frame(wanted), 0, 0))
         listening.ask(ledger.faults + 1)

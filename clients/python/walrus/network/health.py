@@ -1,15 +1,15 @@
-"""How a blob really is: which of its shards are there now, and not only which acknowledged it once; and whether
-anything can be stored just now."""
+"""The present health of a blob: which of its shards are live now, not only which acknowledged it once. Also whether
+anything can be stored at present."""
 from typing import Any, Iterable, Mapping, NamedTuple, Optional
 
 from .ledger import ACK, Ledger
 
 HELD, CARRIED, LACKING, SILENT = "held", "carried", "lacking", "silent"
-LIVE = HELD, CARRIED  # an acknowledgement of this committee; or an earlier one's, for which `ready` vouches
+LIVE = HELD, CARRIED  # acknowledged to this committee, or to an earlier one and carried over, as `ready` vouches
 
 
 class Nodes(NamedTuple):
-    """What is known of nodes: why each does not answer, where it was asked, and its figures."""
+    """What is known of nodes that were asked: why each does not answer (empty if it does), and its figures."""
 
     faults: Mapping[str, str]
     figures: Mapping[str, Mapping[str, Mapping[str, float]]]
@@ -22,13 +22,13 @@ class Nodes(NamedTuple):
         return bool(self.faults.get(name))
 
     def has_room(self, name: str) -> bool:
-        """Whether a node's disk takes more, as far as it tells."""
+        """Whether a node's disk has room, by its own figures; assumed if it reports none."""
         disk = self.figures.get(name, {}).get("disk", {})
         return disk.get("free", 1) > disk.get("reserve", 0)
 
 
 def shards_of(ledger: Ledger, identifier: bytes, nodes: Nodes, findings: Iterable[dict[str, Any]]) -> list[str]:
-    """How each shard of the committee is that answers for a blob; of challenges the last one of a node counts."""
+    """Returns the state of each shard in the committee that answers for a blob; each node's last challenge counts."""
     home, found = ledger.home_epoch(identifier), ledger.certificate(identifier)
     acks = ledger.blobs[identifier].votes[ACK].get(home, frozenset())
     name, states = identifier.hex(), list[str]()
@@ -47,7 +47,7 @@ def shards_of(ledger: Ledger, identifier: bytes, nodes: Nodes, findings: Iterabl
 
 
 def storing(ledger: Ledger, nodes: Nodes, away: Mapping[str, Any]) -> dict[str, Any]:
-    """Whether anything can be stored now, and why not."""
+    """Returns whether anything can be stored now (`possible`), why not, and how many shards would take it."""
     names, why = dict.fromkeys(ledger.writing), list[str]()
     takes = {it for it in names if not nodes.is_silent(it) and nodes.has_room(it)}
     count = sum(it in takes for it in ledger.writing)

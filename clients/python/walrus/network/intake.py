@@ -1,4 +1,4 @@
-"""Blobs that come whole to a node: they are stored by one judgement, and the node's word for them follows by itself."""
+"""Blobs that come to a node whole: the judge is asked once for each, and the node acknowledges them by itself."""
 import asyncio
 from typing import TYPE_CHECKING, Optional
 
@@ -12,26 +12,26 @@ from .whole import Whole
 if TYPE_CHECKING:
     from .node import Node
 
-HEARD = 10.0  # seconds in which the ledger shows the registration of a blob that came already
+HEARD = 10.0  # seconds for which a blob that came ahead of its registration waits for it
 
 
 class Intake:
-    """What comes whole to a node."""
+    """Stores the blobs that come to a node whole."""
 
     def __init__(self, node: "Node"):
-        self.node, self.words = node, list[tuple[int, str]]()  # that wait for the disk; what was lost before them
-        self.given = set[str]()  # words that wait for the disk or the ledger: who sends a blob again adds none
+        self.node, self.words = node, list[tuple[int, str]]()  # acknowledgements to post; losses before each
+        self.given = set[str]()  # those that wait for the disk or the ledger: a blob that is sent again adds none
         self.giving: Optional["asyncio.Task[None]"] = None
 
     async def expect(self, request: memoryview) -> None:
-        """Waits until the registration of a blob is heard, but not for long."""
+        """Wait until the ledger shows the registration of the blob in a request, for `HEARD` seconds at most."""
         whole = Whole.read(self.node.port.shape, request)
         if whole and whole.identifier not in self.node.ledger.blobs:
             identifier = whole.identifier
             await self.node.until(lambda it: identifier in it.blobs, HEARD)
 
     async def store(self, number: int, request: memoryview) -> list[bytes]:
-        """Stores a blob at a shard."""
+        """Store a blob at a shard and return the answer. If DONE, all is staged, and the caller waits for the disk."""
         node, ledger = self.node, self.node.ledger
         if not (whole := Whole.read(node.port.shape, request)):
             return [answer(client.MALFORMED, 3)]
@@ -46,7 +46,7 @@ class Intake:
                     return said
             said = await shard.answer(whole.wish)
             if node.store.losses != losses:
-                return [answer(FULL)]  # the judge was told of parts that the disk has lost meanwhile
+                return [answer(FULL)]  # the judge counted parts that the disk has lost meanwhile
         if code_of(said) not in client.COUNTS:
             return said
         if not ledger.voted(ACK, identifier, node.name) and not ledger.certified_before(identifier, shard.epoch):
@@ -54,7 +54,7 @@ class Intake:
         return [answer(client.DONE)]
 
     def give_word(self, shard: Shard, identifier: bytes) -> None:
-        """Has the node's word given for what a shard holds, where all its other shards hold as much."""
+        """Have the node acknowledge a blob that a shard holds, if all its other shards hold it too."""
         node, others = self.node, self.node.sides.get(shard.epoch, {}).values()
         word = entry_key(node.name, ACK, shard.epoch, identifier.hex())
         if word not in self.given and all(it is shard or it.vouches(ACK, identifier) for it in others):
@@ -64,15 +64,15 @@ class Intake:
                 self.giving = asyncio.create_task(self.give_words())
 
     async def give_words(self) -> None:
-        """Posts words once what they rest on is on the disk. One is refused where the epoch is another one meanwhile,
-        or the blob's time is over."""
+        """Post acknowledgements once their blobs are on the disk. The ledger refuses one if the epoch has changed
+        meanwhile or the blob has expired."""
         node = self.node
         while self.words:
             words, self.words = self.words, []
             durable = await node.store.durable()
             for losses, word in words:
                 if durable and node.store.losses == losses:
-                    taken = node.recorders.leave(word)  # or refused
+                    taken = node.recorders.leave(word)  # done once the ledger takes or refuses it
                     taken.add_done_callback(lambda _, word=word: self.given.discard(word))  # type: ignore[misc]
                 else:
                     self.given.discard(word)

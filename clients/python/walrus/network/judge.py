@@ -1,7 +1,7 @@
-"""The judge of what shards say: the program walrus, told what the disk has of one blob and asked one thing about it.
+"""The judge that decides what shards reply: `walrus serve`, given a request and what ledger and disk have of its blob.
 
-It runs as a call of the library where that is there, else as a process that ends with its answer; either forgets all
-of it. Who judges takes memory and a processor first, so that both are bounded whatever is held and asked."""
+It is one call of the library if that is installed, and otherwise a process that exits after its answer; neither keeps
+any state. Each call first reserves memory and a processor, so both are bounded whatever is held and asked."""
 import asyncio
 import concurrent.futures
 import contextlib
@@ -21,29 +21,29 @@ from ..serving import status_in_words
 from .. import shapes, wire
 
 Result = TypeVar("Result")
-Found = tuple[list[list[bytes]], list[int]]  # what a judge replies to each request, and which parts are wrong
+Found = tuple[list[list[bytes]], list[int]]  # a judge's reply to each request, and the parts that are wrong
 PARTS = client.METADATA, client.SECOND_METADATA, client.SLIVER, client.PROOF
-NO_MEMORY, PATIENCE = 5, 20.0  # a status of the program; seconds until who finds no memory is told to come again
-BESIDE, TIMES = 13_631_488, 6  # memory of a judge: so much, and so many times the bytes that it is told and asked
-LONG = 1_048_576  # bytes over which a judge's memory is given back to the system each time
-SHORT = 65_536  # bytes over which the library judges faster than another thread would begin to
+NO_MEMORY, PATIENCE = 5, 20.0  # an exit status of the program; seconds to wait for memory
+BESIDE, TIMES = 13_631_488, 6  # a judge's bytes: BESIDE, and TIMES those of its parts and request
+LONG = 1_048_576  # a call over more bytes returns its free memory to the system
+SHORT = 65_536  # over fewer bytes the library takes less time than it takes to start another thread
 TRIM_THRESHOLD, MMAP_THRESHOLD, ARENA_MAX = -1, -3, -8  # options of `mallopt`
 
 
 class Unjudged(ConnectionError):
-    """The program gave no judgement: that request fails, and nothing else."""
+    """The program gave no reply: only this request fails."""
 
 
 class Clash(Exception):
-    """Two texts with one digest: the node must not go on."""
+    """A hash collision, two different texts with the same digest: the node must stop."""
 
 
 class Busy(Exception):
-    """No memory came free in time."""
+    """No memory was freed in time: the client should retry."""
 
 
 def engine_of(program: str) -> Union[Library, Program]:
-    """The library, where the variable WALRUS_LIBRARY says, beside the program or in its checkout; else the program."""
+    """Return the library at WALRUS_LIBRARY, beside the program or in its checkout; if there is none, the program."""
     here = pathlib.Path(program).absolute()
     places = [here.with_name("libwalrus.so"), *(top / it for top in here.parents[3:4] for it in BUILT)]
     library = os.environ.get("WALRUS_LIBRARY") or next((str(it) for it in places if it.exists()), "")
@@ -51,15 +51,15 @@ def engine_of(program: str) -> Union[Library, Program]:
 
 
 def keep_memory() -> None:
-    """Has the memory of one call of the library serve the next one. A call has 45 MB, of which it writes little; where
-    they are given back in between, the system maps and clears them anew: 3.8 ms of a processor in place of 0.4."""
-    with contextlib.suppress(AttributeError):  # of a system with another C library
+    """Let malloc keep the memory of one call of the library for the next one. A call allocates 45 MB and writes to few
+    of them. If they are returned in between, the system maps and clears them again: 3.8 ms of a processor, not 0.4."""
+    with contextlib.suppress(AttributeError):  # another C library has no `mallopt`
         for option, value in ((TRIM_THRESHOLD, 67_108_864), (MMAP_THRESHOLD, 33_554_432), (ARENA_MAX, 1)):
             ctypes.CDLL(None).mallopt(option, value)
 
 
 def trimmed(step: Callable[..., Result], *words: object) -> Result:
-    """What a step gives; of its memory the system has back what nobody needs any more."""
+    """Return the result of a step, and return its free memory to the system."""
     try:
         return step(*words)
     finally:
@@ -68,14 +68,14 @@ def trimmed(step: Callable[..., Result], *words: object) -> Result:
 
 
 def name_of(payload: bytes) -> bytes:
-    """The blob that a part is of. A metadata is looked up under this name, and the judge tells whether it is its."""
+    """Return the identifier of a part's blob. That of metadata is computed; the judge decides whether it is right."""
     is_metadata = payload[0] in (client.METADATA, client.SECOND_METADATA)
     return shapes.name_of(payload) if is_metadata else bytes(payload[1:33])
 
 
 def judge(engine: Engine, faults: int, shard: int, requests: list[client.Data]) -> list[list[bytes]]:
-    """What a shard that holds nothing replies to these requests, which it takes one after the other. The list is left
-    empty, so that they are there once."""
+    """Return the replies of a shard that holds nothing to requests, judged one after the other. Empties the list, so
+    that the requests are in memory only once."""
     pages, count = sum(pages_of(it) for it in requests if it[0] in PARTS), len(requests)
     data = wire.joined(parts(requests))
     requests.clear()
@@ -85,7 +85,7 @@ def judge(engine: Engine, faults: int, shard: int, requests: list[client.Data]) 
 def serve(
     engine: Engine, faults: int, shard: int, pages: int, data: client.Data, count: int, room: int
 ) -> list[list[bytes]]:
-    """The replies to so many requests in envelopes, which are of so many pages; they stay where they were written."""
+    """Return the replies to `count` requests whose parts take `pages` pages; they are views of the program's output."""
     words = ["serve", faults, shard, "--pages", pages + 1, "--blobs", count // 2 + 1]
     status, text = engine.run([*map(str, words)], data, room)
     if status == NO_MEMORY:
@@ -105,20 +105,20 @@ def serve(
 
 
 class Room:
-    """Memory that is shared: who finds too little waits for its turn."""
+    """Memory that is shared: a caller that needs more than is free waits, first come, first served."""
 
     def __init__(self, size: int):
         self.size = self.free = size
         self.turn, self.freed = asyncio.Lock(), asyncio.Event()
 
     def grow(self, least: int) -> None:
-        """Has at least so much."""
+        """Have at least `least` bytes in all."""
         more = max(0, least - self.size)
         self.size, self.free = self.size + more, self.free + more
 
     @contextlib.asynccontextmanager
     async def take(self, size: int, seconds: Optional[float] = PATIENCE) -> AsyncIterator[None]:
-        """Has so much, or all where there is less, while it runs; `Busy` where none comes free in time."""
+        """Reserve `size` bytes, or all if there are fewer, for the body; raises `Busy` if they are not free in time."""
         size = min(size, self.size)
         try:
             async with asyncio.timeout(seconds), self.turn:
@@ -136,18 +136,18 @@ class Room:
 
 
 def must_want_memory(fault: Union[MemoryError, OSError]) -> None:
-    """Raises a fault that is another one than want of memory, which the system tells so where it is to be mapped."""
+    """Raise a fault again unless it is a lack of memory; the system reports a failed mapping as `OSError`."""
     if isinstance(fault, OSError) and fault.errno != errno.ENOMEM:
         raise fault
 
 
 def need_of(size: int) -> int:
-    """The memory that a judge takes which is told and asked so many bytes, by the library or as a process."""
+    """Return the memory that a judge takes for parts and a request of `size` bytes, as a library or a process."""
     return BESIDE + TIMES * size
 
 
 class Judges:
-    """As many judges as there are processors, as far as memory goes. What the largest needs is kept from the start."""
+    """At most one judge for each processor, as memory allows; memory for the largest one is kept from the start."""
 
     def __init__(self, program: str, memory: int):
         keep_memory()
@@ -157,14 +157,14 @@ class Judges:
         self.alone, self.count = threading.Lock(), 0
 
     def keep(self, faults: int) -> None:
-        """Keeps memory for one judge, by which one request after the other is answered whatever else wants memory: of
-        the largest one, over a sliver and a proof of the largest blob."""
+        """Keep enough memory for the largest judge, over a sliver and a proof of the largest blob: if the system has no
+        other memory, requests are still answered, one after the other."""
         self.least = need_of(2 * client.Shape(faults).longest)
         self.room.grow(self.least)
         self.kept = mmap.mmap(-1, self.least)
 
     async def work(self, step: Callable[..., Result], *words: object, here: bool = False) -> Result:
-        """What a step gives that must not hold up all others; it has a thread of its own, unless told otherwise."""
+        """Return the result of a step, run in a thread unless `here`; again in the kept memory if there is no other."""
         self.count += 1
         loop = asyncio.get_running_loop()
         try:
@@ -174,7 +174,7 @@ class Judges:
         return await loop.run_in_executor(self.pool, self.with_kept, step, *words)
 
     def with_kept(self, step: Callable[..., Result], *words: object) -> Result:
-        """Where memory is wanting, one step after the other has what is kept."""
+        """Run a step in the kept memory, one step at a time; raises `Unjudged` if that is not enough either."""
         with self.alone:
             self.kept = None
             try:
@@ -187,21 +187,21 @@ class Judges:
                     self.kept = mmap.mmap(-1, self.least) if self.least else None
 
     async def ask(self, size: int, step: Callable[..., Result], *words: object) -> Result:
-        """What a judge gives who is told and asked so many bytes."""
+        """Return the result of a judge's step over `size` bytes, once its memory is reserved."""
         async with self.room.take(need_of(size)):
             if size > LONG:
                 return await self.work(trimmed, step, *words)
             return await self.work(step, *words, here=size < SHORT and isinstance(self.engine, Library))
 
     async def run(self, *words: object, data: Union[client.Data, list[client.Data]] = b"") -> tuple[int, client.Data]:
-        """The status and the output of the program, as `client.Walrus` has them; a long one where it was written."""
+        """Return the program's status and output as `client.Walrus` does; a long output is a view and not copied."""
         size = sum(map(len, data)) if isinstance(data, list) else len(data)
 
         def run() -> Ran:
             whole = wire.joined(data) if isinstance(data, list) else data
             return self.engine.run([*map(str, words)], whole, size + 4_096)
 
-        status, text = await self.ask(2 * size, run)  # what it makes of that is as long
+        status, text = await self.ask(2 * size, run)  # its output is as long as its input
         return status, text if len(text) > SHORT else bytes(text)
 
     def code(self, status: int, text: client.Data) -> client.Code:
@@ -212,13 +212,13 @@ class Judges:
 
 
 def parts_for(request: bytes, shards: int) -> tuple[int, ...]:
-    """The parts of a blob on which the reply to a request rests, or more."""
+    """Return the parts of a blob on which the reply to a request depends, possibly with others."""
     match request[0]:
         case client.READ:
             return METADATA, PRIMARY, PROOF
-        case client.SYMBOL if int.from_bytes(request[34:36], "big") >= shards:  # who asks so wants the metadata alone
+        case client.SYMBOL if int.from_bytes(request[34:36], "big") >= shards:  # the client wants the metadata alone
             return METADATA, PROOF
-        case client.SYMBOL:  # a sliver has the openings of those that cross it
+        case client.SYMBOL:  # a sliver of the other axis has the symbol
             return METADATA, PRIMARY + 1 - request[33], PROOF
         case client.SLIVER:
             return METADATA, PRIMARY + request[33]

@@ -60,9 +60,9 @@ class Keeper:
                 await self.etcd.defragment()
 
     def is_over(self, mark: Mark) -> bool:
-        """Whether all nodes of both committees have posted that they are past a checkpoint's epoch, as far as a
-        recorder knows that has read up to its place, or `patience` is over. That counts from when the checkpoint was
-        written, or by this recorder's own clock from when it first saw it, as the clock of the writer may have been
+        """Whether all nodes of both committees have posted that they are past a checkpoint's epoch, which this recorder
+        knows once it has read up to its place, or `patience` is over. That counts from when the checkpoint was written,
+        and by this recorder's own clock also from when it first saw the checkpoint, as the writer's clock may have been
         ahead."""
         ledger, seen = self.recorder.ledger, self.seen.setdefault(mark.place, time.monotonic())
         late = time.time() > mark.time + self.patience or time.monotonic() > seen + self.patience

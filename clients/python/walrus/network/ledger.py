@@ -93,7 +93,7 @@ class Ledger:
 
     def certified_before(self, identifier: bytes, epoch: int) -> int:
         """Returns the number of shards in a blob's certificate if that is from before an epoch, so that nobody need
-        acknowledge the blob in it; otherwise 0."""
+        acknowledge the blob in that epoch; otherwise 0."""
         first, count = self.certificate(identifier) or (epoch, 0)
         return count if first < epoch else 0
 
@@ -184,7 +184,7 @@ class Ledger:
             raise Void("there is no committee yet")
         if kind in (ACK, ATTEST, "ready", "finish"):
             if entry.values[0] != self.writing_epoch:
-                raise Void(f"it names another epoch than {self.writing_epoch}, which is written now")
+                raise Void(f"it names another epoch than {self.writing_epoch}, the writing epoch")
             if not owned(self.writing, poster):
                 raise Void(f"{poster} has no shard in the committee of epoch {self.writing_epoch}")
         if kind in ("ready", "finish") and not self.moving:

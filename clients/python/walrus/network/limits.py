@@ -1,4 +1,4 @@
-"""How many requests a second one client may make, and how many bytes move: buckets that fill with time."""
+"""Rate limits for the requests and bytes of each client: token buckets, which fill with time."""
 import asyncio
 import collections
 import ipaddress
@@ -7,30 +7,30 @@ import re
 import time
 from typing import Sequence
 
-MOST, BURST = 65_536, 2.0  # clients that are known at once; seconds for which what was not used is kept
+MOST, BURST = 65_536, 2.0  # the most buckets that are kept; seconds' worth of unused rate that a bucket holds
 
 
 class Bucket:
-    """So much a second. What was not used for a while may be used at once."""
+    """A bucket that fills with `rate` a second, up to `BURST` seconds' worth, or `least` if that is more."""
 
     def __init__(self, rate: float, least: float = 1.0):
         self.rate, self.most = rate, max(least, BURST * rate)
         self.left, self.at = self.most, time.monotonic()
 
     def wait(self, amount: float = 0.0) -> float:
-        """Seconds until so much is there, or, without an amount, until nothing is owed."""
+        """Returns the seconds until `amount` is there; without an amount, until nothing is owed."""
         now = time.monotonic()
         self.left, self.at = min(self.most, self.left + (now - self.at) * self.rate), now
         return max(0.0, (amount - self.left) / self.rate)
 
     def take(self, amount: float) -> None:
-        """Takes so much, which may leave something owed."""
+        """Takes an amount, which may leave the bucket below zero: the rest is owed."""
         self.wait()
         self.left -= amount
 
 
 class Limits:
-    """The buckets of clients, by what each is known by: a token, or an address."""
+    """The buckets of clients, by their keys: a token, or an address."""
 
     def __init__(self, requests: float, rate: float):
         self.requests, self.rate = requests, rate
@@ -46,8 +46,8 @@ class Limits:
         return found
 
     def admit(self, keys: Sequence[str]) -> float:
-        """Counts a request of a client that is known by these; the seconds after which it may come, where it may not
-        now."""
+        """Counts a request of the client with these keys and returns 0, or counts nothing and returns the seconds after
+        which it may try again."""
         buckets = [self.bucket("requests", key) for key in keys if self.requests]
         wait = max(
             [it.wait(1) for it in buckets] + [self.bucket("bytes", key).wait() for key in keys if self.rate] + [0]
@@ -57,7 +57,7 @@ class Limits:
         return math.ceil(wait)
 
     async def spend(self, keys: Sequence[str], size: int) -> None:
-        """Counts bytes that moved, and waits until nothing is owed for them."""
+        """Counts bytes that were transferred, and waits until nothing is owed for them."""
         if self.rate:
             buckets = [self.bucket("bytes", key) for key in keys]
             for it in buckets:
@@ -66,7 +66,7 @@ class Limits:
 
 
 class Flow:
-    """What one request moves."""
+    """The bytes that one request transfers."""
 
     def __init__(self, limits: Limits, keys: Sequence[str]):
         self.limits, self.keys, self.moved = limits, keys, 0
@@ -77,7 +77,7 @@ class Flow:
 
 
 def read_address(text: str) -> "ipaddress.IPv4Address | ipaddress.IPv6Address | None":
-    """An address; none where it is a name, or nothing."""
+    """Returns the address in a text, an IPv4-mapped one as IPv4; None for a name or an empty text."""
     try:
         found = ipaddress.ip_address(text.partition("%")[0])
     except ValueError:
@@ -86,18 +86,18 @@ def read_address(text: str) -> "ipaddress.IPv4Address | ipaddress.IPv6Address | 
 
 
 def is_loopback(address: str) -> bool:
-    """Whether an address is of this machine alone."""
+    """Whether an address is a loopback address, which only this machine reaches."""
     found = read_address(address)
     return found is not None and found.is_loopback
 
 
 def is_inner(address: str) -> bool:
-    """Whether an address is of a network that not everybody reaches."""
+    """Whether an address belongs to a network that not everybody reaches, such as a private one."""
     found = read_address(address)
     return found is not None and not found.is_global
 
 
 def is_address(host: str) -> bool:
-    """Whether ADDRESS or ADDRESS:PORT is asked for, and no name."""
+    """Whether a host is ADDRESS or ADDRESS:PORT, and no name."""
     found = re.fullmatch(r"\[(.*)\](:[0-9]*)?|([0-9.]+)(:[0-9]*)?", host)
     return found is not None and read_address(found[1] or found[3] or "") is not None

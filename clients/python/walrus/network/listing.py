@@ -1,4 +1,4 @@
-"""Lists of blobs, and more time for those that are kept."""
+"""Lists blobs, and keeps files and folders for longer."""
 import asyncio
 import re
 
@@ -15,20 +15,20 @@ from .shares import Charge
 from .shelf import LISTS, MOST_BLOBS, TOGETHER, Many, Shelf
 from .turns import ASKING, Turns, owner_of
 
-PAGE, AT_ONCE = 1_000, 2  # blobs of a list that are told at once; lists that are made at once
-FEW = 50  # blobs that are told before others have their turn
-SHORT, LONG = 1_024, 2  # blobs of what is kept for longer beside any number of others; of what has more so many at once
+PAGE, AT_ONCE = 1_000, 2  # blobs on a page of a list; lists that are made at once
+FEW = 50  # blobs that are put on a page before other tasks run
+SHORT, LONG = 1_024, 2  # requests for up to SHORT blobs are kept for longer in any number at once, larger ones LONG
 
 
 class Lister:
-    """Tells which blobs there are, and keeps files for longer."""
+    """Answers requests that list blobs, or keep files for longer."""
 
     def __init__(self, network: Network, reader: Reader, shelf: Shelf):
         self.network, self.reader, self.shelf = network, reader, shelf
         self.turns, self.long = Turns(AT_ONCE), Turns(LONG)
 
     async def list(self, request: web.Request) -> web.StreamResponse:
-        """Blobs in the order of their identifiers, behind one of them, that end within so many epochs."""
+        """Lists blobs that end within some epochs, in the order of their identifiers, from after one that is given."""
         ledger, after, within = (
             self.network.ledger,
             request.query.get("after", ""),
@@ -40,13 +40,13 @@ class Lister:
             raise Problem(400, "after is the identifier of a blob, or nothing")
         last, start = ledger.epoch + int(within), bytes.fromhex(after)
         owner = owner_of(request)
-        async with self.reader.sendings.take(owner):  # who reads none of his lists has few of them here
+        async with self.reader.sendings.take(owner):  # a client that does not read its lists has few of them here
             async with self.turns.take(owner):
                 text = await self.page(start, last)
             return await send_text(request, text, FRESH | JSON)
 
     async def page(self, after: bytes, last: int) -> bytes:
-        """A list as it is told."""
+        """Returns the JSON of one page of a list."""
         ledger, found = self.network.ledger, list[dict[str, object]]()
         names = await ending(self.network, after, last)
         for number, name in enumerate(names[:PAGE]):
@@ -63,8 +63,8 @@ class Lister:
         return {**told, "certificate": certificate, "invalid": self.network.ledger.invalid(name)}
 
     async def extend(self, name: bytes, epochs: int, charge: Charge) -> dict[str, object]:
-        """Keeps a file or all of a folder, with all blobs of which it consists, for so many epochs from the writing one
-        on, or longer."""
+        """Keeps a file or all of a folder, with all its blobs, for `epochs` epochs from the writing one on, or longer
+        if it is already. Returns the JSON of the answer."""
         self.reader.must_stand(name)
         try:
             return await self.keep(name, epochs, charge, SHORT)
@@ -73,11 +73,11 @@ class Lister:
                 return await self.keep(name, epochs, charge, MOST_BLOBS)
 
     async def keep(self, name: bytes, epochs: int, charge: Charge, most: int) -> dict[str, object]:
-        """Keeps what has so many blobs at most."""
+        """Does the work of `extend` for what has at most `most` blobs; raises `Many` if it has more."""
         network, until = self.network, self.network.ledger.writing_epoch + epochs
         size, names = await self.shelf.consists(name, most)
         short, end = list[bytes](), LAST_UNTIL
-        for number, piece in enumerate(names):  # of which anybody may list half a million
+        for number, piece in enumerate(names):  # anybody may list half a million
             self.reader.must_stand(piece)
             short += [piece] if (kept := network.ledger.blobs[piece].until) < until else []
             end = min(end, max(kept, until))
@@ -85,7 +85,7 @@ class Lister:
                 await asyncio.sleep(0)
         if short:
             charge.set_to(size, len(short))  # the file costs its bytes again, and these blobs
-        first = short[:1]  # which lists the others, and so is kept longer once they are
+        first = short[:1]  # if it lists the others, it is kept for longer only once they are
         del short[:1]
         while short:
             await all_of(network.register(piece, until) for piece in short[:PAGE])
@@ -95,7 +95,8 @@ class Lister:
 
 
 async def ending(network: Network, after: bytes, last: int) -> list[bytes]:
-    """Blobs of a list, and one behind it; by a thread where a file has them, as it may go over all of them."""
+    """Returns the blobs of a page, and the one after it. If they are in a file, a thread reads it, as it may go over
+    all of them."""
     state, run = network.state, asyncio.get_running_loop().run_in_executor
     if not state.name or not (state.whole or state.settle()):
         return state.blobs.ending(after, last, PAGE + 1)

@@ -172,7 +172,7 @@ class Local:
         await all_of(map(self.start_node, known))
 
     def hear(self, network: Network) -> None:
-        """Notes which nodes own the shards of both committees, for `lacks`."""
+        """Notes which nodes own the shards of both committees, for `up` and `lacks`."""
         self.sides, self.faults = (network.ledger.now, network.ledger.next), network.ledger.faults
 
     async def lacks(self) -> str:

@@ -13,7 +13,8 @@ from .follower import NAME as RECORDER
 from .settings import GatewaySettings, RecorderSettings, Settings
 
 AUTHORITY, ETCD_AUTHORITY = "authority", "etcd-authority"
-# Names that no node, gateway or user may have, in any case, as TLS ignores it; a user may be the operator.
+# Names that no node, gateway or user may have, in upper or lower case, as TLS ignores case; but a user may be the
+# operator.
 KEPT = {OPERATOR, RECORDER, AUTHORITY, ETCD_AUTHORITY, "etcd", "units"}
 PLACE = re.compile(r"(?:([^=]+)=)?(\[[0-9A-Fa-f:.]+\]|[^\[\]:*=]+)(?::(\d{1,5}))?(?:\*(\d{1,4}))?")
 ETCD = """ETCD_NAME={name}
@@ -104,7 +105,7 @@ class Place:
 
 class Machine:
     """The files of one machine, which are written to `into`. On the machine they will be in the folder `etc`, and its
-    services keep their data in `state`; both are empty for a network on this machine, in one folder."""
+    services keep their data in `state`; both are empty if the files stay in `into`."""
 
     def __init__(self, folder: pathlib.Path, into: pathlib.Path, etc: str, state: str, plan: Mapping[str, Any]):
         self.folder, self.into, self.plan = folder, into, plan

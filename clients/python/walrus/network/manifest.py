@@ -1,7 +1,7 @@
-"""Manifests: which files a folder has, and where the bytes of each lie. The same folder has the same manifest.
+"""Manifests: which files a folder has, and where the bytes of each file are. Equal folders have equal manifests.
 
-A manifest is a mark, and for each file a line: its path, media type and length, and its place, with tabs between. The
-lines ascend byte by byte. docs: network/HTTP.md, "Folders"."""
+A manifest is a mark, then a line for each file: path, media type, length and place, separated by tabs. The lines are in
+ascending order of their bytes. docs: network/HTTP.md, "Folders"."""
 import array
 import base64
 import re
@@ -10,10 +10,10 @@ from typing import Iterable, Iterator, NamedTuple, Optional, Union
 from .chunks import LONGEST, PIECE
 
 MARK = b"\x00walrus folder\x00\x01"
-MOST_FILES, MOST_BYTES = 262_144, 67_108_864  # files of a folder, and bytes of a manifest
-PATH, PART = 1_024, 255  # bytes of a path, and of a name in it
+MOST_FILES, MOST_BYTES = 262_144, 67_108_864  # most files of a folder; most bytes of a manifest
+PATH, PART = 1_024, 255  # most bytes of a path, and of a name in it
 OTHER = "application/octet-stream"
-SILENT = "", OTHER, "application/x-www-form-urlencoded"  # what clients say of whatever they send
+SILENT = "", OTHER, "application/x-www-form-urlencoded"  # what clients send by default, whatever the file is
 KINDS = {
     "text/html": "html htm",
     "text/css": "css",
@@ -62,25 +62,25 @@ NAME = rb"(?!\.{1,2}[/\t])[^\x00-\x1f\x7f/\\]{1,%d}" % PART
 TYPE = rb"[a-z0-9][a-z0-9!#$&^_.+-]{0,63}/[a-z0-9][a-z0-9!#$&^_.+-]{0,63}"
 NUMBER = rb"0|[1-9][0-9]{0,12}"
 LINE = re.compile(rb"((?:%s/)*%s)\t(%s)\t(%s)\t(?:-|([0-9a-f]{64})(?:@(%s))?)\n" % (NAME, NAME, TYPE, NUMBER, NUMBER))
-MOST_LINE = 1_400  # bytes of a line: whoever matches more is led through a path without an end
-CONTROLS = re.compile("[\x00-\x1f\x7f-\x9f]")  # of which a manifest's bytes have those below 20 by its form alone
+MOST_LINE = 1_400  # most bytes of a line: without a bound, the match would run through an endless path
+CONTROLS = re.compile("[\x00-\x1f\x7f-\x9f]")  # LINE excludes those of one byte already
 
 
 class Wrong(ValueError):
-    """A path that no folder has, or what is no manifest; in words."""
+    """A path that no folder may have, or a malformed manifest. The text says what is wrong."""
 
 
 class TooMany(Wrong):
-    """More files than one folder has."""
+    """More files than one folder may have."""
 
 
 class Foreign(Wrong):
-    """What does not begin as a manifest does."""
+    """Data that does not begin with the mark of a manifest."""
 
 
 class Place(NamedTuple):
-    """A file of a folder. `file` names what holds its bytes, as `PUT /v1/blobs` names it, and is nothing for an empty
-    file; from `offset` on they lie in it, among others, or it is these bytes alone."""
+    """A file of a folder. `file` is the identifier, as `PUT /v1/blobs` returns it, of what holds its bytes; it is empty
+    for an empty file. They begin at `offset` there, among others; without `offset` they are all of it."""
 
     path: str
     kind: str
@@ -94,7 +94,7 @@ class Place(NamedTuple):
 
 
 def as_path(name: Union[str, bytes]) -> str:
-    """A path in a folder, from what a tool calls a file; raises `Wrong` where that is no such path."""
+    """Returns a tool's name for a file as a path in a folder; raises `Wrong` if no folder may have this path."""
     try:
         path = name.decode() if isinstance(name, bytes) else name.encode().decode()
     except UnicodeError:
@@ -113,53 +113,53 @@ def as_path(name: Union[str, bytes]) -> str:
 
 
 def shown(name: Union[str, bytes]) -> str:
-    """A path as an error names it: what is long is cut, and what is no letter is escaped."""
+    """Returns a path for an error message: at most 100 characters, escaped if some cannot be printed."""
     text = name.decode("utf-8", "backslashreplace") if isinstance(name, bytes) else name
     return ascii(text[:100]) if CONTROLS.search(text) or not text.isprintable() else repr(text[:100])
 
 
 def clean(text: str) -> str:
-    """What somebody else says, as a terminal may have it: what is not printed is escaped, as it may be a command."""
+    """Returns somebody else's text with unprintable characters escaped, as they may be commands to a terminal."""
     return "".join(it if it.isprintable() else ascii(it)[1:-1] for it in text)
 
 
 def kind_of(path: str) -> str:
-    """The media type of a file, by the ending of its name."""
+    """Returns the media type of a file, by the ending of its name."""
     name = path.rpartition("/")[2]
     return BY_ENDING.get(name.rpartition(".")[2].lower(), OTHER) if "." in name[1:] else OTHER
 
 
 def kind_told(told: str, path: str) -> str:
-    """The media type that is told of a file, or that of the file's name where it says nothing; raises `Wrong` where it
-    is of no form that a manifest has."""
+    """Returns the media type that a client gives for a file, or that of the file's name if the client gives none or a
+    default. Raises `Wrong` if a manifest cannot have it."""
     kind, _, parameter = (it.strip() for it in told.lower().partition(";"))
     if kind in SILENT and not parameter:
         return kind_of(path)
     if not re.fullmatch(TYPE.decode(), kind) or parameter not in ("", "charset=utf-8", 'charset="utf-8"'):
-        raise Wrong(f"{shown(told)} is no media type that is kept: say TYPE/SUBTYPE, with charset=utf-8 at most")
+        raise Wrong(f"{shown(told)} is no media type that can be kept: send TYPE/SUBTYPE, at most with charset=utf-8")
     return kind
 
 
 def label_of(name: bytes) -> str:
-    """A folder's name in DNS, which is that of its own host below others: its identifier in base32."""
+    """Returns a folder's label in DNS, which begins the name of its own host: its identifier in base32."""
     return base64.b32encode(name).decode().lower().rstrip("=")
 
 
 class Manifest:
-    """A manifest that was read and checked. `data` is its bytes, which may be those of a file."""
+    """A manifest that was read and checked. `data` is its bytes, which may be a mapped file."""
 
     def __init__(self, data: Union[bytes, memoryview]):
-        """Raises `Wrong` with the first thing that is wrong."""
+        """Checks all lines; raises `Wrong` for the first fault."""
         self.data, self.starts = memoryview(data), array.array("I")
         if bytes(self.data[: len(MARK)]) != MARK:
             raise Foreign("it does not begin as a manifest does")
         if len(data) > MOST_BYTES:
             raise Wrong(f"it has more than {MOST_BYTES} bytes")
-        before, above, end = b"", dict[bytes, None](), len(MARK)  # files that the path before is, or begins with
+        before, above, end = b"", dict[bytes, None](), len(MARK)  # the previous path; files that are its prefixes
         while end < len(self.data):
             found = LINE.match(self.data, end, end + MOST_LINE)
             if not found or len(self.starts) == MOST_FILES:
-                raise Wrong(f"line {len(self.starts) + 1} is none, or is one too many")
+                raise Wrong(f"line {len(self.starts) + 1} is malformed, or one too many")
             path = found[1]
             while above and not path.startswith(next(reversed(above))):
                 above.popitem()
@@ -182,7 +182,7 @@ class Manifest:
         return Place(path.decode(), kind.decode(), int(length), name, None if offset is None else int(offset))
 
     def first(self, text: bytes) -> int:
-        """The number of the first line that is not before a text."""
+        """Returns the number of the first line that does not sort before a text."""
         low, high = 0, len(self.starts)
         while low < high:
             middle = (low + high) // 2
@@ -198,40 +198,40 @@ class Manifest:
         return bytes(self.data[start : start + len(text)]) == text  # noqa: E203
 
     def find(self, path: str) -> Optional[Place]:
-        """The file of a path."""
+        """Returns the file at a path, or None."""
         text = path.encode() + b"\t"
         number = self.first(text)
         return self.at(number) if self.starts_with(number, text) else None
 
     def has(self, folder: str) -> bool:
-        """Whether there is a folder, whose path ends with a slash, or is empty for all of it."""
+        """Whether there is a folder of this path, which ends with a slash, or is empty for the whole folder."""
         return not folder or self.starts_with(self.first(folder.encode()), folder.encode())
 
     def within(self, folder: str) -> Iterator[Union[str, Place]]:
-        """What is in a folder itself: files, and the names of folders, in the order of the manifest."""
+        """Yields what is directly in a folder, in the order of the manifest: files, and the names of folders."""
         front = folder.encode()
         number = self.first(front)
         while self.starts_with(number, front) and number < len(self):
             place = self.at(number)
             name, slash, _ = place.path[len(folder) :].partition("/")  # noqa: E203
             yield name if slash else place
-            number = self.first(f"{folder}{name}0".encode()) if slash else number + 1  # 0 follows the slash
+            number = self.first(f"{folder}{name}0".encode()) if slash else number + 1  # in ASCII, 0 follows the slash
 
 
 def check(before: bytes, path: bytes, above: Iterable[bytes], found: "re.Match[bytes]") -> None:
-    """Raises where a line does not fit behind the one before it. The path begins with each of those above."""
+    """Raises `Wrong` if a line may not follow the previous one. Each of `above` is a prefix of its path."""
     try:
         text = path.decode()
     except UnicodeError:
         text = "\x7f"
     length, file, offset = int(found[3]), found[4], int(found[5] or 0)
-    is_beside = before.startswith(path[: path.rfind(b"/") + 1] or b"/")  # whose folders were looked at
+    is_beside = before.startswith(path[: path.rfind(b"/") + 1] or b"/")  # that path's folders were checked
     if path + b"\t" <= before + b"\t" and before:
-        raise Wrong(f"{shown(path)} does not stand in its order, or twice")
+        raise Wrong(f"{shown(path)} is out of order, or occurs twice")
     if CONTROLS.search(text) or len(path) > PATH:
         raise Wrong(f"{shown(path)} is too long, is no UTF-8 or has a control character")
     if not is_beside and any(path[len(it) : len(it) + 1] == b"/" for it in above):  # noqa: E203
-        raise Wrong(f"{shown(path)} is in a folder that is a file, too")
+        raise Wrong(f"{shown(path)} is in a folder that is also a file")
     most = LONGEST if found[5] is None else PIECE
     if (length == 0) != (file is None) or offset + length > most:
         raise Wrong(f"{shown(path)} has a length that does not fit its place")

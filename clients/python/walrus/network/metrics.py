@@ -1,6 +1,6 @@
-"""Numbers in the text format of Prometheus, of a gateway and of a node, by Debian's python3-prometheus-client.
+"""Metrics of a gateway or a node in Prometheus' text format, made by Debian's python3-prometheus-client.
 
-It is loaded once somebody asks for numbers: commands and other services do without."""
+This module is loaded once metrics are asked for: commands and other services do without that package."""
 import collections
 import re
 from typing import Any, Iterable, Mapping, Union
@@ -14,15 +14,15 @@ from .connections import Counted, Server
 from .times import HEADERS, Times
 
 Value = Union[float, Mapping[str, float]]  # a number, or numbers by labels such as `way="in"`
-CONNECTIONS = 32  # with who asks a node for numbers
+CONNECTIONS = 32  # the most connections of clients that ask a node for metrics
 PROCESS = ProcessCollector(registry=CollectorRegistry(auto_describe=False))  # of this process: memory, descriptors
 MEANT = {
-    "bad_encodings": "Blobs that were found to be badly encoded, by what came of announcing them",
+    "bad_encodings": "Blobs that were found to be badly encoded, by the outcome of announcing them",
     "blobs": "Blobs that are registered, certified, or declared invalid",
     "blobs_read": "Blobs that were read from the network",
     "cache_bytes": "Bytes that the cache takes",
-    "cache_hits": "Readings that found a blob in the cache, or on its way there",
-    "challenges": "Challenges, by what was found",
+    "cache_hits": "Reads that found a blob in the cache, or on its way there",
+    "challenges": "Challenges, by finding",
     "epoch": "The epoch",
     "http_bytes": "Bytes of files, in and out",
     "http_requests": "Requests, by method and status",
@@ -39,7 +39,7 @@ MEANT = {
 
 
 class Told(Collector):
-    """What is told once."""
+    """A collector of given metrics, for one answer."""
 
     def __init__(self, families: Iterable[Metric]):
         self.families = families
@@ -49,12 +49,12 @@ class Told(Collector):
 
 
 def labels_of(text: str) -> dict[str, str]:
-    """The labels in a text such as `method="GET",status="200"`."""
+    """Returns the labels in a text such as `method="GET",status="200"`."""
     return dict(re.findall(r'(\w+)="([^"]*)"', text))
 
 
 def family(name: str, kind: str, value: Value) -> Metric:
-    """A counter or a gauge, of one number or of several by their labels."""
+    """Returns a counter or a gauge with one number, or with several by their labels."""
     values = value if isinstance(value, Mapping) else {"": value}
     labels = [*labels_of(next(iter(values), ""))]
     made: Union[CounterMetricFamily, GaugeMetricFamily] = (
@@ -68,7 +68,7 @@ def family(name: str, kind: str, value: Value) -> Metric:
 
 
 def histogram(name: str, times: Times) -> Metric:
-    """How long things took, by their labels."""
+    """Returns a histogram of durations, by their labels."""
     labels = [*labels_of(next(iter(times.counts), ""))]
     made = HistogramMetricFamily(f"walrus_{name}", meaning(name), labels=labels)
     for text in times.counts:
@@ -81,7 +81,7 @@ def meaning(name: str) -> str:
 
 
 def told(counters: Mapping[str, Value], gauges: Mapping[str, Value], times: Mapping[str, Times]) -> bytes:
-    """The text of all of it, with what this process takes."""
+    """Returns the text of all metrics, with those of this process (memory, descriptors)."""
     families = [family(name, "counter", it) for name, it in counters.items()]
     families += [family(name, "gauge", it) for name, it in gauges.items()]
     families += [histogram(name, it) for name, it in times.items() if it.counts]
@@ -89,7 +89,7 @@ def told(counters: Mapping[str, Value], gauges: Mapping[str, Value], times: Mapp
 
 
 class Numbers(Server):
-    """What answers with numbers, over a few connections: who opens many takes no descriptor that a node needs."""
+    """The server of metrics. It has few connections, so that its clients take no descriptors that a node needs."""
 
     def __init__(self) -> None:
         super().__init__()
@@ -102,7 +102,7 @@ class Numbers(Server):
 
 
 async def serve(place: str, tell: Any) -> Server:
-    """Answers GET /metrics at PORT of this machine alone, or at HOST:PORT, with what `tell` gives."""
+    """Answers GET /metrics with what `tell` returns, at HOST:PORT, or on loopback if `place` is just PORT."""
     host, _, port = place.rpartition(":")
 
     async def answer(request: web.Request) -> web.Response:

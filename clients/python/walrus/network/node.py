@@ -1,4 +1,4 @@
-"""A node: the shards that it owns behind one port, over its disk, following the ledger."""
+"""A node: it serves the shards that it owns on one port, keeps their parts on its disk, and follows the ledger."""
 import argparse
 import asyncio
 import functools
@@ -35,19 +35,19 @@ from .store import Store
 from .whole import WHOLE
 
 VOUCHES = {client.ACK: ACK, client.ATTEST: ATTEST}
-sslproto.SSLProtocol.max_size = 65_536  # bytes that each connection has ready, instead of four times as many
-REQUEST, IDLE, COUNTED = 30.0, 60.0, 13  # seconds, and the code of an answer
-BARE = 50_331_648  # bytes of a node that does nothing
-PAGES = 8_192  # KiB of the ledger's database that are kept in memory
-TAIL = 2  # epochs whose entries a node keeps, from which a ledger that was restored is made whole
+sslproto.SSLProtocol.max_size = 65_536  # bytes of read buffer of each TLS connection, instead of four times as many
+REQUEST, IDLE, COUNTED = 30.0, 60.0, 13  # two deadlines in seconds; the answer code of a vote below a quorum
+BARE = 50_331_648  # bytes that an idle node takes
+PAGES = 8_192  # KiB of page cache for the ledger's database
+TAIL = 2  # epochs whose entries a node keeps, so that a ledger restored from a snapshot can be completed
 
 
 class Node(View):
-    """The shards of one name, in the committee of now and the one to come."""
+    """The shards of one node, in the present committee and, during a handover, in the next one."""
 
     def __init__(self, settings: Settings):
         self.settings, self.name, authority = settings, settings.name, pathlib.Path(settings.authority)
-        spare = max(0, settings.memory - settings.kept - BARE)  # and before any thread has memory of its own:
+        spare = max(0, settings.memory - settings.kept - BARE)  # `Judges` next: its `mallopt` must precede any thread
         self.judges, self.repairs = Judges(settings.program, 2 * spare // 3), Room(spare // 3)
         self.store = Store(pathlib.Path(settings.database), settings.recorded, self.fail)
         recorders = Recorders(settings.recorders, settings.authority, settings.certificate, settings.key)
@@ -58,13 +58,14 @@ class Node(View):
         self.port = NodePort(self, Bounds(settings.connections, REQUEST, IDLE, settings.kept))
         self.scrub, self.intake, self.progress = Scrub(self), Intake(self), Progress()
         self.tasks: list["asyncio.Task[None]"] = []
-        self.numbers: Any = None  # what tells Prometheus
-        self.turned: object = None  # the committees whose shards go on here
-        self.wrong: "asyncio.Queue[bytes]" = asyncio.Queue()  # blobs of which something went wrong on the disk
-        self.unattested = set[bytes]()  # blobs with a proof here that the ledger was away to hear of
+        self.numbers: Any = None  # the server that Prometheus reads
+        self.turned: object = None  # the epoch and committees that `turn` last set up
+        self.wrong: "asyncio.Queue[bytes]" = asyncio.Queue()  # blobs of which a part was found wrong on the disk
+        self.unattested = set[bytes]()  # blobs with a proof here, not attested yet as the ledger was away
 
     async def open(self) -> int:
-        """Takes what the disk has, catches up with the ledger, and listens; the port."""
+        """Set up the shards from the disk, follow the ledger, and listen; return the port. If it takes more than 5 s to
+        catch up with the ledger, the node serves what is on its disk meanwhile."""
         await self.turn()
         self.tasks.append(asyncio.create_task(self.watched(self.follow())))
         if not await self.until(lambda _: self.caught_up or self.failed.done(), 5):
@@ -77,36 +78,37 @@ class Node(View):
         for work in (*owed, self.scrub.run(), self.scrub.sweep_always(), *told):
             self.tasks.append(asyncio.create_task(self.watched(work)))
         if self.settings.metrics:
-            from . import metrics  # here alone: other nodes do not load it
+            from . import metrics  # here, so that only nodes that need it load it
 
             self.numbers = await metrics.serve(self.settings.metrics, self.port.numbers)
         return port
 
     async def watched(self, work: Coroutine[Any, Any, object]) -> None:
-        """Runs what must not fail; the node ends with it."""
+        """Run a task that the node needs; if it fails, the node ends."""
         try:
             await work
-        except Exception as fault:  # whatever it is: a node that goes on without this would stay behind unseen
+        except Exception as fault:  # of any kind: a node that goes on without this would fall behind unnoticed
             self.fail(fault)
 
     def fail(self, fault: Optional[Exception]) -> None:
-        """Ends the node: as it was told, or as it must."""
+        """End the node: because of a fault, or normally if there is none, as after a signal."""
         if not self.failed.done():
             self.failed.set_exception(first_of(fault)) if fault else self.failed.set_result(None)
 
     async def mend(self) -> None:
-        """Recovers at once what was found to be wrong on the disk."""
+        """Recover parts from the other nodes as soon as they are found to be wrong on the disk."""
         while True:
             wrong = {await self.wrong.get()}
             while not self.wrong.empty():
                 wrong.add(self.wrong.get_nowait())
-            async with passing(self.name, "what went wrong is recovered later"):  # `heal` finds it again
+            async with passing(self.name, "parts that went wrong are recovered later"):  # `heal` finds it again
                 for epoch in list(self.sides):
                     await settle(self, epoch, wrong)
 
     async def apply(self, entries: list[Entry]) -> None:
-        """Enters entries in their order, perhaps behind a checkpoint. A blob that is over begins anew with no parts:
-        the disk is waited for once for all of these, as anybody may register many again behind a turn."""
+        """Apply entries in their order, after a checkpoint if one was just loaded. An expired blob that is registered
+        again begins without parts. All such blobs are dropped from the disk before the first of them is applied, so
+        that the disk is waited for only once: anybody may register many blobs again after an epoch change."""
         ledger, gone = self.ledger, set[bytes]()
         await self.turn()
         for place, entry in enumerate(entries):
@@ -117,13 +119,13 @@ class Node(View):
             await self.turn()
 
     def begins_anew(self, entry: Entry) -> bool:
-        """Whether an entry registers a blob that is over, of which the disk may have parts."""
+        """Return whether an entry registers an expired blob again, of which the disk may still have parts."""
         return entry.words[1:2] == [REGISTER] and self.ledger.blobs.is_over(entry.values[0])
 
     async def turn(self) -> None:
-        """Where there are other committees than before, has their shards go on once that is on the disk: what stays is
-        a row, and no part is touched. Those before hold nothing more, and blobs that are over go while others are
-        served."""
+        """If the epoch or its committees have changed, write that to the disk, and then set up their shards. A shard
+        that stays takes one row, and no part is touched. Earlier committees hold nothing more. Expired blobs are
+        dropped later, while requests are served."""
 
         def stage() -> None:
             for epoch in self.epochs():
@@ -144,47 +146,47 @@ class Node(View):
         self.turned = turned
 
     def epochs(self) -> list[int]:
-        """The epochs whose committees there are."""
+        """Return the epochs that have a committee: the present one, and during a handover the next one."""
         ledger = self.ledger
         return [ledger.epoch, ledger.epoch + 1][: 1 + ledger.moving] if ledger.now else []
 
     def shards(self, epoch: int) -> dict[int, Shard]:
-        """The shards that this node owns in an epoch."""
+        """Return the shards that this node owns in an epoch, by their numbers."""
         rest = self.ledger, self.store, self.judges, self.wrong.put_nowait, self.settings.reserve
         own = self.ledger.shards_of(self.name, epoch)
         return {number: Shard(number, epoch, self.store.begin(epoch, number), *rest) for number in own}
 
     async def reply(self, shard: int, request: bytes) -> Said:
-        """The reply to a client's request to a shard, and the one where the disk does not take what it rests on."""
+        """Return the reply to a client's request to a shard, and the one to send if the disk fails to keep its data."""
         try:
             reply = await self.route(shard, request)
         except Busy:
-            reply = [answer(NO_MEMORY)]  # it may come again
+            reply = [answer(NO_MEMORY)]  # the client may retry
         except Past:
-            return await self.reply(shard, request)  # by the committee of now
-        except (OSError, sqlite3.OperationalError) as fault:  # of the system: it fails this request alone
+            return await self.reply(shard, request)  # from the present committee
+        except (OSError, sqlite3.OperationalError) as fault:  # from the system: only this request fails
             self.port.tell(f"{self.name}: a request fails: {fault}", "failed")
             if request[0] != WHOLE:
                 raise ConnectionError(str(fault)) from fault
-            reply = [answer(NO_MEMORY)]  # others may have come with it, which go on
+            reply = [answer(NO_MEMORY)]  # others that came over the same connection go on
         except (Clash, sqlite3.Error) as fault:
             self.fail(fault)
             raise ConnectionError(str(fault)) from fault
         said: list[client.Data] = [*parts(reply, shard)]
-        if sum(map(len, said)) <= PIECE:  # a small one keeps no more memory than it has bytes
+        if sum(map(len, said)) <= PIECE:  # copied, as a small reply would keep a larger buffer in memory
             said = [b"".join(said)]
         if request[0] not in (*PARTS, WHOLE, client.FORGET) or code_of(reply) not in (client.DONE, client.HELD):
             return Said(said)
         return Said(said, self.store.written(), joined([answer(FULL, len(request) // 4096 + 1)], shard))
 
     async def route(self, number: int, request: bytes) -> list[bytes]:
-        """Asks the shard of the committee that a request is for."""
+        """Return the reply of the shard that a request is for, in the committee that answers such requests."""
         ledger, kind = self.ledger, request[0]
         if kind == WHOLE:
             return await self.intake.store(number, memoryview(request))
         now, writing = (self.sides.get(epoch, {}).get(number) for epoch in (ledger.epoch, ledger.writing_epoch))
         if kind in (*PARTS, *VOUCHES) and not writing or not (shard := writing or now):
-            return [answer(DECLINED)]  # this node has no such shard, or what is new is for the committee to come
+            return [answer(DECLINED)]  # no such shard here, or none in the next committee, which takes what is new
         if kind in PARTS:
             return await shard.put(request)
         if kind in VOUCHES:
@@ -194,20 +196,21 @@ class Node(View):
         both = [it for it in dict.fromkeys((now, writing)) if it]
         if kind == client.SYMBOL:
             replies = [await it.answer(request) for it in both]
-            return max(replies, key=len)  # a shard of now and its successor have the same openings, where they have any
+            return max(replies, key=len)  # a shard and its successor have the same opening, if they have one
         if kind == client.FORGET:
             return [await it.forget(request) for it in both][-1]
-        return [answer(DECLINED)]  # entries are posted to the ledger, and not to a node
+        return [answer(DECLINED)]  # entries are posted to a recorder, not to a node
 
     async def vouch(self, kind: str, shard: Shard, request: bytes) -> list[bytes]:
-        """Posts the node's word once its shard would give it, by the judge, and all others of it hold as much, unless
-        the ledger has it, or has certified the blob in an epoch before; says what the ledger made of it."""
+        """Post the node's vote on a blob, an acknowledgement or an attestation; return the answer: the number of
+        shards that voted so, or a refusal. The judge must let this shard vote, and all others of the node must hold as
+        much. Nothing is posted if the ledger has the vote already, or certified the blob in an earlier epoch."""
         ledger, identifier, losses = self.ledger, request[1:33], self.store.losses
         said = await shard.answer(request)
         if code_of(said) not in (COUNTED, COUNTED + 1):
             return said
         if not all(it.vouches(kind, identifier) for it in self.sides.get(shard.epoch, {}).values()):
-            return [answer(DECLINED)]  # one word counts for all shards of the node, and one of them cannot give it
+            return [answer(DECLINED)]  # a vote counts for all shards of the node, and one of them cannot give it
         if not await self.store.durable() or self.store.losses != losses:
             return [answer(FULL)]
         if kind == ACK and (found := ledger.certified_before(identifier, shard.epoch)):
@@ -215,18 +218,18 @@ class Node(View):
         voted = functools.partial(ledger.voted, kind, identifier, self.name)
         if not voted():
             if not self.port.give_way():
-                return [answer(*client.LEDGER_AWAY)]  # many wait for it already
+                return [answer(*client.LEDGER_AWAY)]  # many requests wait for it already
             try:
                 await self.recorders.post(entry_key(self.name, kind, shard.epoch, identifier.hex()))
                 if not await self.until(lambda _: voted() or ledger.writing_epoch != shard.epoch, 20):
                     raise Unreachable("the ledger did not show the entry in time")
             except Unreachable as fault:
-                self.port.tell(f"{self.name}: a word waits for the ledger: {fault}", "ledger")
+                self.port.tell(f"{self.name}: acknowledgement or attestation waits for the ledger: {fault}", "ledger")
                 return [answer(*client.LEDGER_AWAY)]
-            except Refused:  # it was said meanwhile, or the ledger is further than this node has heard
+            except Refused:  # the vote is there already, or the ledger is ahead of what this node has heard
                 pass
         if not voted():
-            return [answer(DECLINED)]  # the blob is over, or the epoch is another one meanwhile
+            return [answer(DECLINED)]  # the blob has expired, or the epoch has changed meanwhile
         count = len(ledger.blobs[identifier].votes[kind][ledger.writing_epoch])
         return [answer(COUNTED + (count >= ledger.quorum), count)]
 
@@ -246,7 +249,7 @@ class Node(View):
 
 
 def mend_of(settings: Settings, node: Optional[Node]) -> str:
-    """What is to be done about a torn database: the copy of the ledger, or else that of the parts."""
+    """Say what to do about a torn database: the copy of the ledger if that one is torn, else the database of parts."""
     if node:
         try:
             node.state.must_be_whole()
@@ -256,7 +259,7 @@ def mend_of(settings: Settings, node: Optional[Node]) -> str:
 
 
 async def serve(settings: Settings, kind: type[Node] = Node) -> int:
-    """Runs a node until it is told to end, or must."""
+    """Run a node until a signal ends it, or a fault; return the exit status."""
     node, end = None, "cannot start"  # type: Optional[Node], str
     try:
         node = kind(settings)

@@ -1,4 +1,4 @@
-"""What a service manager is told: that a service is ready, and again and again that it lives."""
+"""Messages to the service manager: that a service is ready, and regularly that it is alive."""
 import asyncio
 import contextlib
 import functools
@@ -7,34 +7,34 @@ import socket
 import threading
 from typing import Iterator
 
-EACH, MORE = 20.0, 300  # seconds: until more time is asked for again; what is left of a start from then on, at least
-SOON = 1.0  # seconds until a manager that took nothing is told again that a service is ready
+EACH, MORE = 20.0, 300  # seconds: between requests for more time for a start; the time that each asks for
+SOON = 1.0  # seconds until READY is sent again to a manager that accepted nothing
 
 
 @functools.cache
 def sender() -> socket.socket:
-    """By which the manager is told: kept, as a service that has no descriptor left goes on, and is to be heard. It does
-    not block, as a manager that hangs reads nothing, and its services go on nevertheless."""
+    """Return the socket for messages to the manager. It stays open, so that a service without free descriptors can
+    still send, and it does not block, so that a manager that hangs does not stop its services."""
     made = socket.socket(socket.AF_UNIX, socket.SOCK_DGRAM)
     made.setblocking(False)
     return made
 
 
 def notify(text: str) -> None:
-    """Tells the service manager that started this process, if there is one."""
+    """Send a message to the service manager that started this process, if there is one."""
     address = os.environ.get("NOTIFY_SOCKET", "")
     if address:
         sender().sendto(text.encode(), address.replace("@", "\0", 1) if address.startswith("@") else address)
 
 
 def alive() -> None:
-    """Has the watchdog of the service manager see that this process goes on."""
+    """Show the watchdog of the service manager that this process is alive."""
     with contextlib.suppress(OSError):
         notify("WATCHDOG=1")
 
 
 def beat() -> None:
-    """Has it see from here on that the event loop turns."""
+    """Show the watchdog, if there is one, from now on regularly that the event loop runs."""
     microseconds = int(os.environ.get("WATCHDOG_USEC", "0"))
     if microseconds:
         alive()
@@ -43,8 +43,8 @@ def beat() -> None:
 
 @contextlib.contextmanager
 def extending() -> Iterator[None]:
-    """Lets a start take longer than its unit says, for as long as this runs. A thread asks for that, as the event loop
-    stands still meanwhile."""
+    """Extend the start timeout of the unit while the body runs. A thread asks for that, as the body blocks the event
+    loop."""
     over = threading.Event()
 
     def extend() -> None:
@@ -62,7 +62,7 @@ def extending() -> Iterator[None]:
 
 
 def tell_ready() -> None:
-    """Tells the manager that a service is ready, again and again while it takes nothing."""
+    """Tell the manager that a service is ready; retry while it accepts nothing."""
     try:
         notify("READY=1")
     except BlockingIOError:
@@ -70,7 +70,7 @@ def tell_ready() -> None:
 
 
 def ready(text: str) -> None:
-    """Says in a line that a service answers from here on, to the service manager too."""
+    """Print a line that a service answers from now on, tell the service manager too, and start `beat`."""
     print(text, flush=True)
     tell_ready()
     beat()

@@ -19,7 +19,7 @@ from .ledger import Ledger
 from .peers import SCRUB, Seat
 from .transfers import Failure
 
-NAMED = 20  # blobs that end with an epoch: so many are printed, and the number of the others
+NAMED = 20  # blobs ending with an epoch that are printed at most, before the number of the others
 SNAPSHOT = "; take a snapshot of the ledger before you remove nodes without shards (network/OPERATING.md)"
 
 

@@ -1,6 +1,6 @@
-"""The files of a folder while they come, in any order, until its manifest can be made. Small ones share packs.
+"""Collects the files of a folder, in any order, until its manifest can be made. Small files share packs.
 
-What is known of them is in a database of SQLite without a name, so that a long folder takes no memory."""
+What is known about them is in a temporary SQLite database, so that a long folder takes no memory."""
 import os
 import sqlite3
 from typing import Any, Iterator, Optional
@@ -8,8 +8,8 @@ from typing import Any, Iterator, Optional
 from .chunks import LONGEST
 from .manifest import MARK, MOST_BYTES, MOST_FILES, Place, TooMany, Wrong, kind_of, shown
 
-SMALL, PACK, MANY = 524_288, 1_048_576, 1_024  # bytes of a file that lies in a pack, and bytes and files of a pack
-WRITTEN = 131_072  # bytes of a manifest that are made at once
+SMALL, PACK, MANY = 524_288, 1_048_576, 1_024  # most bytes of a file in a pack; most bytes and files of a pack
+WRITTEN = 131_072  # bytes of a manifest that are made at a time
 MADE = """
 CREATE TABLE files (path BLOB PRIMARY KEY, length INTEGER, file BLOB, digest BLOB) WITHOUT ROWID;
 CREATE TABLE large (path BLOB PRIMARY KEY, length INTEGER, at) WITHOUT ROWID;
@@ -19,26 +19,27 @@ CREATE TABLE packs (pack INTEGER PRIMARY KEY, file BLOB);
 """
 SMALL_FILE = "INSERT INTO contents VALUES (?, ?, ?, ?) ON CONFLICT DO UPDATE SET first = min(first, excluded.first)"
 SMALLS = """SELECT digest, contents.length, at FROM files JOIN contents USING (digest)
-WHERE path = first ORDER BY path"""  # of equal files the first
+WHERE path = first ORDER BY path"""  # of files with equal contents only the first
 LINES = """SELECT path, length, files.file, packs.file, offset FROM files
 LEFT JOIN packed USING (digest) LEFT JOIN packs USING (pack) ORDER BY path"""
 
 
 class Folder:
-    """The files of a folder. `at` is where whoever gathers them finds one again."""
+    """The files of a folder. `at` is where the caller finds a file's bytes again."""
 
     def __init__(self) -> None:
         self.base = sqlite3.connect("", isolation_level=None)
         self.base.executescript(
             f"PRAGMA journal_mode=OFF; PRAGMA synchronous=OFF; PRAGMA cache_size=-1000; {MADE} BEGIN;"
         )
-        self.count = self.bytes = self.room = 0  # files and their bytes, and those of the manifest at least
+        self.count = self.bytes = self.room = 0  # files, their bytes, and bytes that suffice for their lines
 
     def close(self) -> None:
         self.base.close()
 
     def begin(self, path: str) -> None:
-        """Takes the path of a file, whose bytes are told later; raises `Wrong` where it cannot be beside the others."""
+        """Adds the path of a file whose contents follow later. Raises `Wrong` if it clashes with an earlier path, and
+        `TooMany` if the folder is full."""
         key = path.encode()
         if self.base.execute("SELECT 1 FROM files WHERE path = ?", (key,)).fetchone():
             raise Wrong(f"{shown(path)} comes twice")
@@ -52,8 +53,8 @@ class Folder:
         self.count += 1
 
     def is_within_file(self, key: bytes) -> bool:
-        """Whether one of the folders in a path is a file. That could only be the file that stands just before it, or as
-        long a folder as the two have in common: shorter ones are folders of the other too. So depth costs nothing."""
+        """Whether a folder in a path is also a file. Only the longest prefix that it has in common with the path just
+        before it can be one: shorter folders were checked with that path. So the cost does not grow with depth."""
         rows = self.base.execute("SELECT path FROM files WHERE path < ? ORDER BY path DESC LIMIT 1", (key,))
         common = os.path.commonprefix([key, *(row[0] for row in rows)])
         if common == key or key[len(common) : len(common) + 1] != b"/":  # noqa: E203
@@ -61,20 +62,20 @@ class Folder:
         return bool(self.base.execute("SELECT 1 FROM files WHERE path = ?", (common,)).fetchone())
 
     def add(self, path: str, length: int, file: bytes) -> None:
-        """Tells of a file that is stored on its own, or is empty."""
+        """Records a file that is stored on its own, or is empty."""
         self.tell(path, length, file, None)
 
     def add_large(self, path: str, length: int, at: object) -> None:
-        """Keeps where a file is that will be stored on its own."""
+        """Records where the bytes of a file are that will be stored on its own."""
         self.base.execute("INSERT INTO large VALUES (?, ?, ?)", (path.encode(), length, at))
 
     def large(self) -> Iterator[tuple[str, int, Any]]:
-        """The paths, lengths and places of these."""
+        """Yields path, length and `at` of the files that `add_large` recorded."""
         for path, length, at in self.base.execute("SELECT * FROM large ORDER BY path"):
             yield path.decode(), length, at
 
     def add_small(self, path: str, length: int, digest: bytes, at: object) -> None:
-        """Tells of a file that will be in a pack; `digest` is the SHA-256 of its bytes."""
+        """Records a file that will be in a pack; `digest` is the SHA-256 of its bytes."""
         self.base.execute(SMALL_FILE, (digest, length, at, path.encode()))
         self.tell(path, length, None, digest)
 
@@ -84,11 +85,11 @@ class Folder:
         self.bytes += length
 
     def knows(self, digest: bytes) -> bool:
-        """Whether a small file with these bytes came before."""
+        """Whether a small file with the same contents was added before."""
         return bool(self.base.execute("SELECT 1 FROM contents WHERE digest = ?", (digest,)).fetchone())
 
     def packs(self) -> Iterator[list[tuple[int, int, object]]]:
-        """For each pack what lies in it: offsets, lengths, and where the bytes are. Packs are numbered from 0 on."""
+        """Yields for each pack the offset, length and `at` of each file in it. Packs are numbered from 0."""
         pack, size, number = list[tuple[int, int, object]](), 0, 0
         for digest, length, at in self.base.execute(SMALLS):
             if size + length > PACK or len(pack) == MANY:
@@ -104,17 +105,17 @@ class Folder:
             yield pack
 
     def place(self, pack: int, file: bytes) -> None:
-        """Says as what a pack is stored."""
+        """Records the identifier under which a pack is stored."""
         self.base.execute("INSERT INTO packs VALUES (?, ?)", (pack, file))
 
     def places(self) -> Iterator[Place]:
-        """The files, in the order of the manifest, once all packs have their place."""
+        """Yields the files in the order of the manifest; `place` must have been called for each pack."""
         for key, length, own, packed, offset in self.base.execute(LINES):
             path = key.decode()
             yield Place(path, kind_of(path), length, packed if own is None else own, offset)
 
     def manifest(self) -> Iterator[bytes]:
-        """The bytes of the manifest, in parts."""
+        """Yields the bytes of the manifest in parts."""
         part = bytearray(MARK)
         for place in self.places():
             part += place.line()
@@ -125,6 +126,6 @@ class Folder:
 
 
 def ends_pack(digest: bytes, length: int) -> bool:
-    """Whether a pack ends behind a file of this SHA-256: the longer, the likelier, whatever is before it. So a change
-    of one file leaves most packs as they were."""
+    """Whether a pack ends after a file with this SHA-256. This depends on that file alone, and is the likelier the
+    longer it is. So a change of one file leaves most packs as they were."""
     return int.from_bytes(digest[:8], "big") % SMALL < length

@@ -1,4 +1,4 @@
-"""What the gateway tells of the network: for its page and programs as JSON, and for Prometheus as text."""
+"""The gateway's view of the network: its status as JSON, for the page and programs, and metrics for Prometheus."""
 import asyncio
 import collections
 import itertools
@@ -25,11 +25,11 @@ from .sorting import Sorter
 from .times import Times
 from .turns import ASKING, Turns
 
-RECENT, FINDINGS, FRESH, LOOKED = 100, 10, 0.5, 2_000  # files and challenges that are told; seconds
-# for which what is told will do; blobs among which files are looked for
+RECENT, FINDINGS, FRESH, LOOKED = 100, 10, 0.5, 2_000  # the most files and challenges in the status; seconds
+# for which the status and metrics are reused; recent blobs among which files are looked for
 DRAWS, CHALLENGES = 4, 8  # symbols that a challenge draws; challenges at once
-TIMES = 3  # what a challenge takes, in the bytes that a node may show
-FIGURE_NAMES = {  # of a node, as they are told
+TIMES = 3  # memory that a challenge takes, in multiples of what a node may return
+FIGURE_NAMES = {  # what the status has of a node's figures, by group
     "held": ("blobs", "bytes", "wrong"),
     "ledger": ("place",),
     "disk": ("bytes", "used", "free", "reserve"),
@@ -43,11 +43,11 @@ DRAWN = random.SystemRandom()
 Finding = dict[str, Any]  # of a challenge: `blob`, `node`, whether it `holds` a part, `said` in words, and the `time`
 
 
-Figures = dict[str, dict[str, float]]  # of a node, by what they are of and by name
+Figures = dict[str, dict[str, float]]  # figures of a node, by group and name
 
 
 def need_of(faults: int) -> int:
-    """The memory that a challenge takes: for the symbols, or else for a proof."""
+    """Returns the memory that a challenge takes, for the symbols or else for a proof of bad encoding."""
     shape = client.Shape(faults)
     return LEAST + TIMES * max(DRAWS * shape.widest, shape.longest)
 
@@ -57,7 +57,7 @@ def is_figure(value: Any) -> bool:
 
 
 def numbers(told: dict[str, Any]) -> Figures:
-    """What of a node's figures can be figures: it may say anything."""
+    """Returns the known figures of a node that are valid numbers; a node may send anything."""
     named = {group: told[group] for group in FIGURE_NAMES if isinstance(told.get(group), dict)}
     return {
         group: {it: int(parts[it]) for it in FIGURE_NAMES[group] if is_figure(parts.get(it))}
@@ -66,7 +66,8 @@ def numbers(told: dict[str, Any]) -> Figures:
 
 
 class Watch:
-    """Asks nodes whether they answer, and challenges one now and then to show some of what it should hold."""
+    """Checks regularly whether nodes answer, and challenges one at times to show symbols of a blob that it should hold.
+    Its task (`task`) runs until `close`."""
 
     def __init__(
         self,
@@ -80,13 +81,13 @@ class Watch:
     ):
         self.network, self.pause, self.between, self.stale, self.sorter = network, pause, challenges, stale, sorter
         self.memory, self.turns = memory, Turns(CHALLENGES)
-        self.peers = Peers(network.ledger, authority, 10)  # so that no long transfer stands before what is asked here
+        self.peers = Peers(network.ledger, authority, 10)  # its own, so that no check waits behind a long transfer
         self.faults, self.figures = dict[str, str](), dict[str, Figures]()
         self.findings: "collections.deque[Finding]" = collections.deque(maxlen=FINDINGS)
         self.held: "collections.Counter[str]" = collections.Counter()
-        self.announced: Iterable[dict[str, Any]] = ()  # badly encoded blobs that were found, and what came of it
-        self.told: tuple[float, bytes] = (-FRESH, b"")  # when the status was told last, and what it was
-        self.metered: tuple[float, bytes] = (-FRESH, b"")  # the same of the numbers
+        self.announced: Iterable[dict[str, Any]] = ()  # findings of the `Announcer`: badly encoded blobs and outcomes
+        self.told: tuple[float, bytes] = (-FRESH, b"")  # when the status was made last, and its text
+        self.metered: tuple[float, bytes] = (-FRESH, b"")  # the same for the metrics
         self.task = asyncio.create_task(all_of([self.probe(), self.learn(), self.challenge_some()]))
 
     async def close(self) -> None:
@@ -98,7 +99,7 @@ class Watch:
         return sorted(self.network.ledger.nodes)
 
     def seat(self, name: str, epoch: int) -> Optional[Seat]:
-        """One of the shards that a node has in the committee of an epoch."""
+        """Returns a random one of a node's shards in the committee of an epoch; None if it has none."""
         ledger = self.network.ledger
         seats = self.peers.seats(ledger.owners(epoch), ledger.faults)
         own = [seat for seat in seats if seat.name == name]
@@ -110,16 +111,16 @@ class Watch:
             await asyncio.sleep(self.pause)
 
     async def learn(self) -> None:
-        """Finds out which of the last blobs are files, beside all else: one may be read for minutes."""
+        """Finds out which of the last blobs are files. This runs separately, as reading one may take minutes."""
         while self.sorter:
             try:
                 await self.sorter.learn(self.last())
-            except Exception as fault:  # as with challenges
+            except Exception as fault:  # whatever a blob has, as in `challenge_some`
                 print(f"a blob's length is not known: {fault}", file=sys.stderr, flush=True)
             await asyncio.sleep(self.pause)
 
     def last(self) -> list[bytes]:
-        """The last blobs, without pieces of files."""
+        """Returns the last blobs, newest first, without pieces of files as far as they are known."""
         some = itertools.islice(reversed(self.network.ledger.blobs), LOOKED)
         return [*itertools.islice(self.sorter.files(some) if self.sorter else some, RECENT)]
 
@@ -127,7 +128,7 @@ class Watch:
         return health.Nodes(self.faults, self.figures)
 
     def away(self) -> dict[str, Any]:
-        """For how long the ledger was not heard, and why where that is long."""
+        """Returns for how long the ledger was not heard, whether that is too long and why, and its last place."""
         seconds = self.network.silence()
         stale = seconds > self.stale
         said = f"no recorder tells it: {self.network.recorders.said}" if stale else ""
@@ -135,11 +136,11 @@ class Watch:
         return {**told, "place": self.place()}
 
     def place(self) -> int:
-        """The last entry that was heard."""
+        """Returns the place of the last entry that was heard, or 0."""
         return self.network.chain.place if self.network.chain else 0
 
     async def ask(self, name: str) -> None:
-        """Whether a node answers: any request will do, here for a blob that there is not."""
+        """Notes whether a node answers, and its figures. Any request will do, here a read of a blob that none has."""
         ledger = self.network.ledger
         seat = self.seat(name, ledger.epoch) or self.seat(name, ledger.writing_epoch)
         try:
@@ -160,11 +161,12 @@ class Watch:
             try:
                 for identifier in [it for it in drawn if not ledger.invalid(it)][:1]:
                     await self.challenge(identifier, DRAWN.choice(ledger.owners(ledger.home_epoch(identifier))))
-            except Exception as fault:  # whatever a node shows: the nodes are asked still, and the next one challenged
+            except Exception as fault:  # whatever a node returns, checks continue and the next challenge is made
                 print(f"a challenge fails: {type(fault).__name__}: {fault}", file=sys.stderr, flush=True)
 
     async def challenge(self, identifier: bytes, name: str) -> Finding:
-        """Has a node show symbols at drawn places of a blob, which are verified."""
+        """Has a node return symbols at random places of a blob, verifies them, and returns the finding. Raises
+        `Problem` (404) if the node has no shard that answers for the blob."""
         seat = self.seat(name, self.network.ledger.home_epoch(identifier))
         if seat is None:
             raise Problem(404, "no node of this name has a shard in the committee that answers for the blob")
@@ -183,12 +185,12 @@ class Watch:
         return found
 
     async def proves(self, seat: Seat, identifier: bytes) -> bool:
-        """Whether a shard gives a proof of bad encoding, which it may hold in place of slivers."""
+        """Whether a shard returns a valid proof of bad encoding, which it may hold in place of slivers."""
         _, kept, _ = await client.listen(seat, Asked.for_proof(client.write_frame(client.Read(identifier))))
         return await client.proves(kept, identifier, self.network.walrus)
 
     def blob(self, identifier: bytes) -> dict[str, Any]:
-        """What the ledger says of a blob, and how many of its shards are there now."""
+        """Returns what the ledger has about a blob, and how many of its shards are live; raises `Problem` (404)."""
         ledger = self.network.ledger
         blob, found = ledger.blobs.get(identifier), ledger.certificate(identifier)
         if blob is None:
@@ -218,7 +220,7 @@ class Watch:
         }
 
     def with_shards(self, identifier: bytes) -> dict[str, Any]:
-        """What is known of a blob, with each of its shards."""
+        """Returns what is known of a blob, with the state and last challenge of each of its shards."""
         ledger, told = self.network.ledger, self.blob(identifier)
         states = health.shards_of(ledger, identifier, self.known(), self.findings)
         shown = {it["node"]: it for it in reversed(self.findings) if it["blob"] == identifier.hex()}
@@ -228,7 +230,7 @@ class Watch:
         return {**told, "faults": ledger.faults, "quorum": ledger.quorum, "shards": shards}
 
     def status(self) -> dict[str, Any]:
-        """What is known of the network; of its blobs the last ones."""
+        """Returns the state of the network, and of its last blobs."""
         ledger = self.network.ledger
         told = {name: getattr(ledger, name) for name in ("epoch", "moving", "faults", "quorum")}
         return told | {
@@ -252,23 +254,23 @@ class Watch:
         return told | {"state": state, "said": fault or "", "figures": self.figures.get(name, {})}
 
     def status_text(self) -> bytes:
-        """The status as a line of JSON, made anew at most twice a second, however many ask."""
+        """Returns the status as a line of JSON. It is made at most twice a second, however many clients ask."""
         now = time.monotonic()
         if now - self.told[0] > FRESH:
             self.told = now, as_line(self.status())
         return self.told[1]
 
     def metrics(self, counts: Mapping[str, Any], sizes: Mapping[str, Any], times: Mapping[str, Times]) -> bytes:
-        """Prometheus' text of the status and of more by name: what only grows, the rest, and how long things take. It
-        too is made anew at most twice a second."""
+        """Returns the status and further numbers in Prometheus' text format: `counts` are counters, `sizes` gauges, and
+        `times` histograms, by name. It, too, is made at most twice a second."""
         now = time.monotonic()
         if now - self.metered[0] > FRESH:
             self.metered = now, self.meter(counts, sizes, times)
         return self.metered[1]
 
     def meter(self, counts: Mapping[str, Any], sizes: Mapping[str, Any], times: Mapping[str, Times]) -> bytes:
-        """The same, made anew."""
-        from . import metrics  # here alone: it takes a while to load
+        """Makes the text that `metrics` returns."""
+        from . import metrics  # imported only here, as loading takes a while
 
         status = json.loads(self.status_text())
         nodes = {f'node="{it["name"]}"': int(it["state"] == "answers") for it in status["nodes"]}

@@ -1,4 +1,4 @@
-"""Shards at nodes, over TLS: requests to them are those of the small client, with its deadlines and filters."""
+"""Shards at nodes, over TLS. Requests to them are those of the small client, with its deadlines and filters."""
 import asyncio
 import concurrent.futures
 import contextlib
@@ -17,39 +17,39 @@ from ..wire import Wire, connect
 from .ledger import Ledger
 from .limits import read_address
 
-LOOKUPS = 32  # names that are looked up at once, one of a node
-FIRST = 2.0  # seconds in which an address of a node is to take a connection, before another one is tried
-LANES, LARGE = 8, 4_194_304  # exchanges with a shard at once; bytes of a large one
-SMALL, TOGETHER, MANY = 32_768, 262_144, 64  # bytes of a small one; of those that go together, and how many these are
-Storing = dict["asyncio.Future[str]", list[client.Data]]  # requests to store blobs, by who waits for what is said
-FIGURES, SCRUB = b"\x60", b"\x61"  # requests of an operator: a node's figures, and these once it begins a scrub
+LOOKUPS = 32  # names that are resolved at once, at most one of each node
+FIRST = 2.0  # seconds for a node's address to accept a connection before the next one is tried
+LANES, LARGE = 8, 4_194_304  # exchanges with a shard at once; bytes from which on a request is large
+SMALL, TOGETHER, MANY = 32_768, 262_144, 64  # a small request has at most SMALL bytes; limits of those sent together
+Storing = dict["asyncio.Future[str]", list[client.Data]]  # requests to store blobs, by the future of the result
+FIGURES, SCRUB = b"\x60", b"\x61"  # an operator's requests for a node's figures: alone, or with a scrub begun
 
 
 class Seat(client.Shard):
-    """A shard at a node, which is looked up when it is connected to. It may be asked again after a fault, and several
-    exchanges are under way at once, each over a connection of its own."""
+    """A shard at a node, whose name is resolved for each connection. It may be asked again after a fault. Several
+    exchanges may be under way at once, each over a connection of its own."""
 
     def __init__(self, peers: "Peers", name: str, number: int, faults: int):
         super().__init__(number, faults, peers.seconds)
         self.peers, self.name, self.turns = peers, name, asyncio.Semaphore(LANES)
-        self.large = asyncio.Semaphore(2)  # of large requests a node keeps no more
-        self.small = asyncio.Semaphore(1)  # and of small ones one exchange is under way
-        self.waiting: Storing = {}  # small ones that go together
-        self.going: Optional["asyncio.Task[None]"] = None  # who sends these
+        self.large = asyncio.Semaphore(2)  # for large requests: a node keeps no more in memory
+        self.small = asyncio.Semaphore(1)  # for one exchange with small requests at a time
+        self.waiting: Storing = {}  # small requests to send together
+        self.going: Optional["asyncio.Task[None]"] = None  # sends these
         self.idle = list[Wire]()
 
     async def connection(self) -> Wire:
-        """A connection to the node that nobody uses."""
+        """Return an idle connection to the node, or a new one."""
         while self.idle:
             wire = self.idle.pop()
             if not wire.at_eof() and not wire.exception():
                 return wire
-            wire.transport.abort()  # it ended between two requests
+            wire.transport.abort()  # it was closed between two requests
         return await self.peers.connect(self.name)
 
     async def ask(self, *requests: client.Request) -> list[client.Reply]:
-        """As of any shard. An exchange that has begun goes on where nobody waits any more, so that it is known when a
-        late shard answers again; who gives up before it is his turn asks nothing."""
+        """Return the replies, as any shard does. An exchange that has begun continues even if nobody waits any more, to
+        learn when a late shard answers again. If the caller is cancelled before its turn, nothing is sent."""
         await self.turns.acquire()
         task = asyncio.create_task(self.exchange(requests))
         self.exchanges.add(task)
@@ -61,20 +61,20 @@ class Seat(client.Shard):
         self.turns.release()
 
     async def exchange(self, requests: Sequence[client.Request], heard: Heard = None) -> list[client.Reply]:
-        """The replies to requests over a connection that nobody else uses, each of which is told as soon as it came."""
+        """Return the replies to requests over a connection of their own; calls `heard` with each as soon as it came."""
         if self.fault:
             raise ConnectionError(self.fault)
         begun, wire = time.monotonic(), None
         try:
             async with asyncio.timeout(self.seconds):
                 wire = await self.connection()
-                if len(requests) == 1:  # it is answered once all of it came
+                if len(requests) == 1:  # it is answered only once all of it is sent
                     await self.send(wire, requests)
                     replies = await self.hear(wire, requests, heard)
                 else:
                     replies, _ = await asyncio.gather(self.hear(wire, requests, heard), self.send(wire, requests))
         except (EOFError, OSError, ValueError) as error:
-            await self.drop()  # what is older may be as dead: a firewall that forgets one connection forgets all
+            await self.drop()  # idle ones may be dead too: a firewall that forgets one connection forgets all
             raise ConnectionError(client.fault_in_words(error, self.seconds)) from None
         else:
             self.idle.append(wire)
@@ -86,9 +86,9 @@ class Seat(client.Shard):
         return replies
 
     async def store(self, request: list[client.Data], registered: asyncio.Event) -> str:
-        """Has a blob stored that comes whole; what the shard says where it is not. Who waits no more for it lets go of
-        what is sent. A small one goes at once if none is under way, and else with others: not before it is registered,
-        as a node would have these wait for that."""
+        """Store a whole blob; return an empty text, or why the shard did not store it. If the caller is cancelled, the
+        request is dropped. A small one is sent at once if no other is under way, and otherwise with others: not before
+        it is registered, as the node would delay the others until then."""
         told: "asyncio.Future[str]" = asyncio.get_running_loop().create_future()
         size = sum(map(len, request))
         if size <= SMALL and (self.small.locked() or self.waiting):
@@ -102,7 +102,7 @@ class Seat(client.Shard):
         return told.result()
 
     async def join(self, told: "asyncio.Future[str]", request: list[client.Data]) -> str:
-        """Has a small blob stored together with all that wait as it does; what the shard says where it is not."""
+        """Store a small blob together with others that wait; return an empty text, or why it is not stored."""
         self.waiting[told] = request
         if self.going is None or self.going.done():
             self.going = asyncio.create_task(self.send_together())
@@ -114,7 +114,7 @@ class Seat(client.Shard):
             self.waiting.pop(told, None)
 
     async def send_together(self) -> None:
-        """Sends small requests that wait, in one exchange all that fit, as long as there are any."""
+        """Send waiting small requests while there are any, as many in each exchange as fit."""
         taken: Storing = {}
         try:
             while self.waiting:
@@ -125,14 +125,14 @@ class Seat(client.Shard):
             for told in (*taken, *self.waiting):
                 told.cancel()
             raise
-        except Exception as fault:  # whatever it is, each hears it as his own
+        except Exception as fault:  # of any kind: it is the result of each request
             for told in (*taken, *self.waiting):
                 if not told.done():
                     told.set_result(str(fault) or type(fault).__name__)
             raise
 
     def take(self) -> Storing:
-        """Those that wait first, as many as go together. They are copied, as who gives up lets go of the blob."""
+        """Remove and return the first waiting requests that fit together: copies, as a caller may free its blob."""
         first = [*itertools.islice(self.waiting, MANY)]
         sizes = itertools.accumulate(sum(map(len, self.waiting[it])) for it in first)
         count = sum(size <= TOGETHER for size in sizes)
@@ -142,11 +142,11 @@ class Seat(client.Shard):
         return taken
 
     async def put(self, storing: Storing) -> None:
-        """Has blobs stored in one exchange, and tells what the shard says to each."""
-        waiting, rest = iter(storing), "it has clashed"
+        """Store blobs in one exchange, and set the result of each."""
+        waiting, rest = iter(storing), "the exchange ended with a clash"
 
         def tell(told: "asyncio.Future[str]", said: str) -> None:
-            if not told.done():  # or nobody waits for it any more
+            if not told.done():  # it is cancelled if nobody waits any more
                 told.set_result(said)
 
         def heard(reply: client.Reply) -> None:
@@ -167,26 +167,26 @@ class Seat(client.Shard):
 
 
 class Peers:
-    """The nodes of a network by name."""
+    """The nodes of a network, by name."""
 
     def __init__(self, ledger: Ledger, authority: pathlib.Path, seconds: float):
         self.ledger, self.seconds = ledger, seconds
         self.context = ssl.create_default_context(cafile=str(authority))
         self.kept = dict[tuple[str, int], Seat]()
-        self.pool = concurrent.futures.ThreadPoolExecutor(LOOKUPS, "names")  # and not asyncio's own, which is for all
-        self.taken = dict[str, str]()  # the address of each node that took a connection last
-        self.sought = dict[str, "asyncio.Future[list[Any]]"]()  # what is looked up for each node
+        self.pool = concurrent.futures.ThreadPoolExecutor(LOOKUPS, "names")  # apart from asyncio's, which serves all
+        self.taken = dict[str, str]()  # each node's address that accepted the last connection
+        self.sought = dict[str, "asyncio.Future[list[Any]]"]()  # lookups under way, by node
 
     def address(self, name: str) -> tuple[str, int]:
-        """Where the ledger says that a node is."""
+        """Return a node's host and port by the ledger; raises `ConnectionError` if it has none."""
         if name not in self.ledger.addresses:
-            raise ConnectionError(f"{name} has told no address")
+            raise ConnectionError(f"{name} has posted no address to the ledger")
         return self.ledger.addresses[name]
 
     async def connect(self, name: str) -> Wire:
-        """A connection to a node, at the first of its addresses that takes one soon. The one that took the last is
-        tried first, so that another one which drops what is sent there, as firewalls do, costs time once; and it is
-        tried again behind all others, as it may be slow."""
+        """Connect to a node at the first of its addresses that accepts soon. The one that accepted the last connection
+        is tried first, so an address where a firewall drops packets costs time only once. It is tried again after all
+        others, as it may be slow."""
         port, hosts = self.address(name)[1], await self.find(name)
         *others, last = sorted(hosts, key=lambda it: it != self.taken.get(name))
         if others and others[0] == self.taken.get(name):
@@ -206,8 +206,8 @@ class Peers:
         return wire
 
     async def find(self, name: str) -> list[str]:
-        """The addresses of a node. Its name is looked up once at a time, in a thread of its own, as one may be told
-        that takes long: so others wait for none of it."""
+        """Return the addresses of a node. Its name is resolved in a thread, by one lookup at a time, as a node may post
+        a name that takes long: that delays no other node."""
         host, port = self.address(name)
         if read_address(host):
             return [host]
@@ -216,25 +216,25 @@ class Peers:
             look = functools.partial(socket.getaddrinfo, host, port, type=socket.SOCK_STREAM)
             try:
                 sought = self.sought[name] = asyncio.get_running_loop().run_in_executor(self.pool, look)
-            except RuntimeError as fault:  # the system gives no thread for it
+            except RuntimeError as fault:  # no thread can be started
                 raise ConnectionError(f"{host} cannot be looked up: {fault}") from None
-            sought.add_done_callback(lambda it: it.cancelled() or it.exception())  # also where nobody waits any more
+            sought.add_done_callback(lambda it: it.cancelled() or it.exception())  # even if nobody waits any more
         return [str(it[4][0]) for it in await asyncio.shield(sought)]
 
     def seats(self, owners: Sequence[str], faults: int) -> list[Seat]:
-        """The shards of a committee, where their nodes are now."""
+        """Return the shards of a committee, given the node of each; the same objects at each call."""
         places = [(name, number) for number, name in enumerate(owners)]
         return [self.kept.get(it) or self.kept.setdefault(it, Seat(self, *it, faults)) for it in places]
 
     async def told(self, name: str, request: bytes) -> dict[str, Any]:
-        """A node's figures as it tells them; raises `ConnectionError` where it does not."""
+        """Return the figures that a node sends; raises `ConnectionError` if it does not."""
         try:
             async with asyncio.timeout(self.seconds):
                 with contextlib.closing(await self.connect(name)) as wire:
                     wire.write(client.envelope(request))
                     _, payload = await client.take_envelope(wire, 65_535)
                     if not isinstance(told := json.loads(payload[1:]), dict):
-                        raise ValueError("what it tells are no figures")
+                        raise ValueError("its reply has no figures")
                     return told
         except (OSError, EOFError, ValueError, RecursionError) as fault:
             raise ConnectionError(client.fault_in_words(fault, self.seconds)) from None

@@ -1,7 +1,7 @@
-"""The pieces of files that come in, and the memory of a gateway.
+"""The pieces of files that are received or sent, and the memory of a gateway.
 
-A piece that comes slowly takes no memory: what is more than a little of it goes to a file that has no name, and is
-read from there when it is its turn. So is a piece that was read, until it is sent."""
+A piece that arrives slowly takes hardly any memory: all but a little goes to a file without a name, which is mapped
+once it is the piece's turn. A piece that was read is kept in such a file, too, until it is sent."""
 import asyncio
 import concurrent.futures
 import contextlib
@@ -18,39 +18,40 @@ from ..fairness import Line
 from .problems import Problem
 from .turns import ASKING
 
-AHEAD, THREADS = 131_072, 4  # bytes of what comes that are in memory meanwhile; and what writes and reads the others
-DISK = concurrent.futures.ThreadPoolExecutor(THREADS, "spool")  # asyncio's own looks names up, perhaps for long
-LEAST, LATER = 1_048_576, 3.25  # what a piece takes at least; what it takes to be decoded, in its bytes
-TIMES, MORE = 8, 11  # what it takes to be encoded, in its bytes, at f = 1 and beyond
-FULL = "not all of it is stored: the gateway has too little room on its disk for what comes; send it again later"
-PATIENCE = 1.0  # seconds for which who wants memory waits for what can be ended
+AHEAD, THREADS = 131_072, 4  # bytes of a piece that stay in memory while it arrives; threads that write and read files
+DISK = concurrent.futures.ThreadPoolExecutor(THREADS, "spool")  # in asyncio's own, name look-ups may take long
+LEAST, LATER = 1_048_576, 3.25  # bytes that any piece takes; further memory to decode one, in multiples of its length
+TIMES, MORE = 8, 11  # memory to encode a piece, in multiples of its length, at f = 1 and above
+FULL = "not all of it is stored: the gateway has too little room on its disk for it; send it again later"
+PATIENCE = 1.0  # seconds for which a request for memory waits before late tasks are cancelled
 Result = TypeVar("Result")
 
 
 class Mapped(mmap.mmap):
-    """The memory of a file, of which parts may be given back at any time."""
+    """A mapped file: parts of its memory may be given back at any time, as they can be read from the file again."""
 
 
 def write(file: IO[bytes], data: memoryview) -> None:
-    """Writes all of this to a file, of which one call may take a part."""
+    """Writes all of `data` to an unbuffered file, of which one call may write only a part."""
     while data:
         data = data[file.write(data) :]  # noqa: E203
 
 
 def must_fit(place: Union[int, pathlib.Path], size: int, reserve: float, full: str) -> None:
-    """Raises where so much more in a file or folder would take the part of its disk that is left free."""
+    """Raises `Problem` (507, with the text `full`) if `size` more bytes would leave less than `reserve` of the disk
+    free."""
     disk = os.statvfs(place)
     if disk.f_bavail * disk.f_frsize - size < reserve * disk.f_blocks * disk.f_frsize:
         raise Problem(507, full)
 
 
 async def in_thread(call: Callable[..., Result], *words: Any) -> Result:
-    """What a call gives that may wait for the disk."""
+    """Runs a call that may wait for the disk in a thread, and returns its result."""
     return await asyncio.get_running_loop().run_in_executor(DISK, call, *words)
 
 
 async def to_the_end(call: Callable[..., Result], *words: Any) -> Result:
-    """The same, until it has ended: who is cancelled meanwhile hears of that behind it."""
+    """Like `in_thread`, but if the caller is cancelled meanwhile, the call still ends before that is raised."""
     running = asyncio.ensure_future(in_thread(call, *words))
     try:
         return await asyncio.shield(running)
@@ -60,16 +61,16 @@ async def to_the_end(call: Callable[..., Result], *words: Any) -> Result:
 
 
 class Spool:
-    """What comes: a little of it is in memory, and all before that in a file without a name. Threads write and read the
-    file, so that a busy disk holds up nobody else. `reserve` is the part of the disk that is left free."""
+    """Data that arrives: the end of it is in memory, and all before that in a file without a name. Threads write and
+    read the file, so that a busy disk holds up nobody else. `reserve` is the part of the disk that stays free."""
 
-    full = FULL  # what is said where that part would be taken
+    full = FULL  # the text of the error if less than that would stay free
 
     def __init__(self, reserve: float = 0.0) -> None:
         self.reserve = reserve
-        self.kept, self.start = bytearray(), 0  # what is in memory, and what is before it
-        self.file: Optional[IO[bytes]] = None  # which the first thread makes that writes
-        self.turn, self.is_away = threading.RLock(), False  # whether anything was given to a thread
+        self.kept, self.start = bytearray(), 0  # data in memory, and the number of bytes before it
+        self.file: Optional[IO[bytes]] = None  # made by the first thread that writes
+        self.turn, self.is_away = threading.RLock(), False  # guards the file; whether any data went to it
 
     @property
     def end(self) -> int:
@@ -82,13 +83,13 @@ class Spool:
             await self.flush(data)
 
     async def flush(self, data: Union[bytes, memoryview] = b"") -> None:
-        """Writes what is in memory, and this behind it."""
+        """Writes the data in memory, followed by `data`, to the file."""
         kept, place = self.taken()
         self.start += len(data)
         await in_thread(self.write, place, kept, data)
 
     def taken(self) -> tuple[bytearray, int]:
-        """What is in memory, to be written, and where it goes in the file."""
+        """Takes the data out of memory, and returns it with its place in the file."""
         kept, place = self.kept, self.start
         self.kept, self.start, self.is_away = bytearray(), self.end, True
         return kept, place
@@ -105,7 +106,7 @@ class Spool:
             return self.file
 
     async def whole(self) -> bytes:
-        """All that came, once; its memory is that of the file."""
+        """Returns all data that arrived; if part of it is in the file, as a map of that."""
         if not self.is_away:
             return bytes(self.kept)
         kept, place = self.taken()
@@ -116,7 +117,7 @@ class Spool:
             return memoryview(Mapped(file.fileno(), self.start, access=mmap.ACCESS_READ))
 
     def close(self) -> None:
-        """Has the file go once no thread is at it: its number may be another file's from then on."""
+        """Closes the file once no thread uses it: its descriptor may be another file's from then on."""
         if self.is_away:
             DISK.submit(self.end_file)
 
@@ -127,17 +128,17 @@ class Spool:
 
 
 async def split(stream: AsyncIterator[bytes], size: int, reserve: float = 0.0) -> AsyncGenerator[bytes, None]:
-    """The pieces, of this size, of a file that comes in parts of any length; one, perhaps empty, at least."""
+    """Yields the pieces, of `size` bytes, of a file that arrives in parts of any length; one at least, maybe empty."""
     spool, full = Spool(reserve), list[bytes]()
     try:
         async for part in stream:
             view = memoryview(part)
-            while spool.end + len(view) > size:  # a piece is given out once something follows it
+            while spool.end + len(view) > size:  # a piece is yielded once something follows it
                 rest = size - spool.end
                 await spool.add(view[:rest])
                 full.append(await spool.whole())
                 view, spool = view[rest:], Spool(reserve)
-                yield full.pop()  # of which nothing stays here
+                yield full.pop()  # so that no reference to it stays here
             await spool.add(view)
         yield await spool.whole()
     finally:
@@ -145,32 +146,32 @@ async def split(stream: AsyncIterator[bytes], size: int, reserve: float = 0.0) -
 
 
 def put_away(blob: bytes) -> bytes:
-    """A blob whose memory is that of a file without a name."""
+    """Returns a blob as a map of a file without a name."""
     with tempfile.TemporaryFile(buffering=0) as file:
         write(file, memoryview(blob))
         return memoryview(Mapped(file.fileno(), len(blob), access=mmap.ACCESS_READ))
 
 
 def is_away(blob: bytes) -> bool:
-    """Whether a blob is in a file."""
+    """Whether a blob is a map of a file."""
     return isinstance(blob, memoryview) and isinstance(blob.obj, Mapped)
 
 
 def let_go(blob: bytes, start: int, end: int) -> None:
-    """Gives back the memory of a span of a blob that is in a file."""
+    """Gives back the memory of a span of a blob if it is in a file; does nothing otherwise."""
     if isinstance(blob, memoryview) and isinstance(blob.obj, Mapped):
         first = start // mmap.PAGESIZE * mmap.PAGESIZE
         blob.obj.madvise(mmap.MADV_DONTNEED, first, end - first)
 
 
 class Share:
-    """Memory that was taken."""
+    """A number of bytes that was taken from a `Memory`."""
 
     def __init__(self, memory: "Memory", size: int):
         self.memory, self.size = memory, size
 
     def shrink(self, size: int) -> None:
-        """Gives back what is more than so much."""
+        """Gives back what exceeds `size` bytes."""
         if size < self.size:
             self.memory.taken -= self.size - size
             self.size = size
@@ -178,7 +179,7 @@ class Share:
 
     @contextlib.asynccontextmanager
     async def more(self, size: int) -> AsyncIterator[None]:
-        """Has so much more while it runs."""
+        """Waits for `size` further bytes, and holds them while the context runs."""
         await self.memory.wait(Wish(size, 0, self))
         try:
             yield
@@ -189,7 +190,7 @@ class Share:
 
 @dataclasses.dataclass(eq=False)
 class Wish:
-    """Who waits for so much memory, will want so much more later, and has a share already if it wants more now."""
+    """A request for `size` bytes of memory, and for `later` ones in the end; or for more, if its share has some."""
 
     size: int
     later: int
@@ -199,31 +200,31 @@ class Wish:
 
 
 class Memory:
-    """So many bytes for all that a gateway does. Who finds too little waits, and those who ask have it in turn.
+    """The memory, in bytes, for all that a gateway does. Requests that find too little wait; clients take turns.
 
-    Who will want more begins only if that is there too once others have given back what they have more, and nobody
-    begins while one waits for more. So one of those who wait for more always finds it, once the others have ended."""
+    A request that will want more begins only if that would be free too once others have given back their later parts,
+    and none begins while one waits for more. So one that waits for more always gets it once the others have ended."""
 
     def __init__(self, size: int):
-        self.size, self.taken, self.grown = size, 0, 0  # what is taken, and what of it is more that was wanted later
+        self.size, self.taken, self.grown = size, 0, 0  # bytes in all, taken, and taken as a later part (`Share.more`)
         self.waiting, self.growing = Line[Wish](), list[Wish]()
-        self.late: "set[asyncio.Task[Any]]" = set()  # what is ended where others want the memory that it has
+        self.late: "set[asyncio.Task[Any]]" = set()  # tasks that are cancelled if others want the memory they hold
 
     def end_late(self) -> None:
         for task in self.late:
             task.cancel()
 
     def is_short(self, size: int) -> bool:
-        """Whether who wants so much has to wait."""
+        """Whether a request for `size` bytes would have to wait."""
         return bool(self.waiting or self.growing) or self.taken + size > self.size
 
     def serve(self) -> None:
-        """Lets those go on for whom there is room now, one at least."""
+        """Grants the requests for which there is room now; one is granted in any case if nothing else runs."""
         for wish in [*self.growing]:
             if self.taken + wish.size <= self.size:
                 self.growing.remove(wish)
                 self.grant(wish)
-        if self.growing and self.taken == sum(it.share.size for it in self.growing):  # he wants more than there is
+        if self.growing and self.taken == sum(it.share.size for it in self.growing):  # all that have memory want more
             self.grant(self.growing.pop(0))
         while self.waiting and not self.growing:
             wish = self.waiting.first()
@@ -238,7 +239,7 @@ class Memory:
         wish.granted.set_result(None)
 
     async def wait(self, wish: Wish) -> None:
-        """Waits until a wish is granted."""
+        """Waits until a request is granted; if cancelled, withdraws it or gives the memory back."""
         if wish.share.size:
             self.growing.append(wish)
         else:
@@ -262,7 +263,7 @@ class Memory:
 
     @contextlib.asynccontextmanager
     async def share(self, size: int, later: int = 0) -> AsyncIterator[Share]:
-        """Has so much while it runs, or less from some time on; `later` is what it will take beside that."""
+        """Holds `size` bytes while the context runs, or fewer after `shrink`; `later` is what `more` will take."""
         share = Share(self, 0)
         await self.wait(Wish(size, later, share))
         try:
@@ -272,10 +273,10 @@ class Memory:
 
 
 def need_of(size: int, faults: int) -> int:
-    """The memory that a piece takes while it is encoded, or that becomes a bundle, as it was measured."""
+    """Returns the memory that a piece takes while it is encoded, or a form that becomes a bundle, as measured."""
     return LEAST + (TIMES if faults == 1 else MORE) * size
 
 
 def reading_needs(size: int) -> tuple[int, int]:
-    """The memory that a piece takes while it comes, and what it takes beside that while it is decoded."""
+    """Returns the memory that a piece takes while it is fetched, and what it takes in addition while it is decoded."""
     return LEAST + size, int(LATER * size)

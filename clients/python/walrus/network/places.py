@@ -1,4 +1,4 @@
-"""Files below a folder of this machine, by paths that somebody else chose: no link is followed, and nothing is written
+"""Files below a folder of this machine, at paths that somebody else chose: no link is followed, and nothing is written
 outside of the folder."""
 import contextlib
 import os
@@ -13,7 +13,7 @@ BELOW = os.O_RDONLY | os.O_DIRECTORY | os.O_NOFOLLOW | os.O_CLOEXEC
 
 
 class Root(contextlib.AbstractContextManager["Root"]):
-    """A folder, which exists."""
+    """A folder, which must exist."""
 
     def __init__(self, path: str):
         self.path, self.handle = path, os.open(path, os.O_RDONLY | os.O_DIRECTORY | os.O_CLOEXEC)
@@ -23,7 +23,8 @@ class Root(contextlib.AbstractContextManager["Root"]):
 
     @contextlib.contextmanager
     def folder_of(self, path: str, make: bool = False) -> Iterator[tuple[int, str]]:
-        """The folder in which a file of this path is, made where it lacks, and the file's own name."""
+        """Yields a descriptor of the folder in which the file of this path is, and the file's own name. With `make`,
+        missing folders are made."""
         *folders, name = path.split("/")
         if not {"", ".", ".."}.isdisjoint([*folders, name]):
             raise Failure(f"{path!r} is no path in a folder", 3)
@@ -42,7 +43,7 @@ class Root(contextlib.AbstractContextManager["Root"]):
 
     @contextlib.contextmanager
     def opened(self, path: str, size: int) -> Iterator[Optional[IO[bytes]]]:
-        """A file of this length, or nothing where there is none."""
+        """Yields the file of this path if it is a regular one of this length, else None."""
         with contextlib.ExitStack() as stack:
             try:
                 handle, name = stack.enter_context(self.folder_of(path))
@@ -56,7 +57,7 @@ class Root(contextlib.AbstractContextManager["Root"]):
 
     @contextlib.contextmanager
     def written(self, path: str) -> Iterator[IO[bytes]]:
-        """A file beside its place, which it takes at the end; it is dropped where anything goes wrong."""
+        """Yields a file beside this path, which takes its place at the end, or is deleted if anything fails."""
         with self.folder_of(path, make=True) as (handle, name):
             beside = f".walrus-{secrets.token_hex(8)}"
             words = os.O_RDWR | os.O_CREAT | os.O_EXCL | os.O_NOFOLLOW | os.O_CLOEXEC
@@ -69,7 +70,7 @@ class Root(contextlib.AbstractContextManager["Root"]):
                     os.unlink(beside, dir_fd=handle)
 
     def folds(self) -> bool:
-        """Whether the file system takes names for equal that differ."""
+        """Whether the file system takes some names for equal that differ, by case or Unicode normalization."""
         name = f".walrus-\u00e5-{secrets.token_hex(8)}"
         os.close(os.open(name, os.O_WRONLY | os.O_CREAT | os.O_EXCL, 0o600, dir_fd=self.handle))
         try:
@@ -79,7 +80,7 @@ class Root(contextlib.AbstractContextManager["Root"]):
             os.unlink(name, dir_fd=self.handle)
 
     def must_keep_apart(self, paths: list[str]) -> None:
-        """Raises where the file system takes two of these paths, or two of their folders, for one."""
+        """Raises `Failure` if the file system takes two of these paths, or two of their folders, for one."""
         if not self.folds():
             return
         known = dict[str, str]()
@@ -96,6 +97,6 @@ def folded(path: str) -> str:
 
 
 def is_equal(file: IO[bytes], start: int, data: bytes) -> bool:
-    """Whether a file has these bytes from a place on."""
+    """Whether a file has these bytes at offset `start`."""
     file.flush()
     return os.pread(file.fileno(), len(data), start) == data

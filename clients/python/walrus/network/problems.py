@@ -1,4 +1,4 @@
-"""What the gateway says where it does not do what it is asked: a status, and a sentence that says what to do."""
+"""Errors of the gateway: each has an HTTP status and a sentence that says what to do."""
 import json
 from typing import Any, Optional
 
@@ -9,15 +9,15 @@ from .client import Away
 from .follower import Refused, Unreachable
 
 ALONE = {"X-Content-Type-Options": "nosniff", "Referrer-Policy": "no-referrer"}
-ALONE["Content-Security-Policy"] = "default-src 'none'; sandbox"  # a blob is no page of the gateway's own
-FRESH = {**ALONE, "Cache-Control": "no-store"}  # what is told now, and nothing keeps
+ALONE["Content-Security-Policy"] = "default-src 'none'; sandbox"  # a blob must not act as the gateway's own page
+FRESH = {**ALONE, "Cache-Control": "no-store"}  # for answers about the present, which no cache may keep
 JSON = {"Content-Type": "application/json; charset=utf-8"}
 NO_BLOB = "no such blob is registered, or its time is over"
 BAD = "the blob was badly encoded by its writer: nobody can read it"
 
 
 class Problem(Exception):
-    """A request that is not done: its status, why, headers, and more that the body tells."""
+    """A request that fails: the HTTP status, the reason, headers, and further fields of the error in the body."""
 
     def __init__(self, status: int, text: str, headers: Optional[dict[str, str]] = None, **more: object):
         super().__init__(text)
@@ -30,18 +30,18 @@ class Problem(Exception):
 
 
 def as_json(value: Any, status: int = 200, headers: Optional[dict[str, str]] = None) -> web.Response:
-    """A response that tells something as a line of JSON, and nothing keeps."""
+    """Returns a response with a value as a line of JSON, which no cache may keep."""
     words = {**FRESH, **JSON, **(headers or {})}
     return web.Response(body=as_line(value), status=status, headers=words)
 
 
 def as_line(value: Any) -> bytes:
-    """The line of JSON that tells something."""
+    """Returns a value as a line of JSON."""
     return json.dumps(value).encode() + b"\n"
 
 
 def problem_of(fault: Exception) -> Problem:
-    """What a fault below means to who asked."""
+    """Returns what an exception from below means to the client."""
     said = {str(shard): words for shard, words in getattr(fault, "said", {}).items() if words}
     if isinstance(fault, Problem):
         return fault
@@ -49,7 +49,7 @@ def problem_of(fault: Exception) -> Problem:
         headers = {name: text for name, text in fault.headers.items() if name == "Allow"}
         if isinstance(fault, web.HTTPMethodNotAllowed) and fault.method == "DELETE":
             return Problem(405, "nothing is deleted: a blob ends with its last epoch, for which it was stored", headers)
-        return Problem(fault.status, f"{fault.reason}: GET /v1/api tells what can be asked", headers)
+        return Problem(fault.status, f"{fault.reason}: GET /v1/api describes all requests", headers)
     if isinstance(fault, client.NoBundle):
         return Problem(404, "the blob is no bundle: read it under /v1/blobs")
     if isinstance(fault, client.NoMember):
@@ -73,5 +73,5 @@ def problem_of(fault: Exception) -> Problem:
 
 
 def ledger_away(text: str, **more: object) -> Problem:
-    """What is not done because the ledger is away, or was so meanwhile."""
+    """Returns the error for a request that failed because the ledger is away, or was away meanwhile."""
     return Problem(503, f"{text}: try again later", None, cause="ledger", **more)

@@ -1,4 +1,4 @@
-"""The program walrus for a gateway: calls in threads, of the library where that is there, which hold up nobody."""
+"""The program walrus for a gateway, or the library if it is installed. Calls run in threads, beside the event loop."""
 import asyncio
 import concurrent.futures
 import contextlib
@@ -16,12 +16,12 @@ from .judge import SHORT, engine_of
 
 
 class Calls(client.Walrus):
-    """The program at a path: as many calls at once as there are processors."""
+    """The program at a path, with as many calls at once as there are processors."""
 
     engine: Union[Library, Program]
     pool: concurrent.futures.ThreadPoolExecutor
-    turn: Callable[[], AbstractAsyncContextManager[None]] = contextlib.nullcontext  # what a call waits for
-    few: Callable[[], bool] = bool  # whether there are so few shards that a short call is made in place
+    turn: Callable[[], AbstractAsyncContextManager[None]] = contextlib.nullcontext  # is entered for each call
+    few: Callable[[], bool] = bool  # whether there are so few shards that short calls need no thread
 
     @classmethod
     def of(cls, path: str) -> "Calls":
@@ -31,7 +31,7 @@ class Calls(client.Walrus):
         return made
 
     def within(self, turn: Callable[[], AbstractAsyncContextManager[None]]) -> "Calls":
-        """The same, of which each call waits for a turn, and has it while it runs."""
+        """Returns the same program, each call of which waits for a turn, and has it while it runs."""
         made = type(self)(self.path)
         made.engine, made.pool, made.turn, made.few = self.engine, self.pool, turn, self.few
         return made
@@ -57,7 +57,7 @@ class Calls(client.Walrus):
 
 
 def room_for(words: Sequence[object], size: int) -> int:
-    """The room that the output of a command takes, or a little more."""
+    """Returns the bytes that the output of a command takes, or a few more."""
     if words[0] == "encode":
         shape = client.Shape(int(str(words[1])))
         symbol = 2 * max(1, -(-size // (2 * shape.symbols[0] * shape.symbols[1])))

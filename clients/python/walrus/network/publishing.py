@@ -1,4 +1,4 @@
-"""The publisher: files that come over HTTP are stored, within the share of the token that is shown for them."""
+"""The publisher: stores files that are sent over HTTP, and counts them towards the share of the client's token."""
 import base64
 import hashlib
 import pathlib
@@ -23,12 +23,13 @@ from .source import HEAD
 from .turns import Turns, owner_of
 
 Store = Callable[[AsyncIterator[bytes], int, list[bytes]], Awaitable[Told]]
-LISTED = 1_000  # pieces that are named at most where a file was not stored
+LISTED = 1_000  # the most certified pieces that the error for an unfinished file names
 LONGEST_FORM = client.LARGEST_BLOB + (1 + 2 * client.MOST_FAULTS) * HEAD
 
 
 def named(request: web.Request) -> bytes:
-    """The identifier of the blob that a request names, and behind it the number of a member."""
+    """Returns the identifier in a request's path, followed by the number of a bundle's member (two bytes) if there is
+    one. Raises `Problem` if either is malformed."""
     name, number = request.match_info["name"], request.match_info.get("number", "")
     if re.fullmatch("[A-Za-z0-9_-]{43}=?", name):
         name = base64.urlsafe_b64decode(name[:43] + "=").hex()
@@ -40,21 +41,21 @@ def named(request: web.Request) -> bytes:
 
 
 async def expected(request: web.Request) -> None:
-    """Takes `Expect: 100-continue`: who sends it is told to go on once it is known that the file may be stored."""
+    """Accepts `Expect: 100-continue`: `Publisher.body` sends the 100 once it is known that the file may be stored."""
     if request.headers["Expect"].lower() != "100-continue":
         raise web.HTTPExpectationFailed()
 
 
 def must_be_plain(request: web.Request) -> None:
-    """Raises where a request does not bring the bytes of a file themselves, from their beginning on."""
+    """Raises `Problem` if a request's body is not the plain bytes of a file from its beginning on."""
     if request.headers.get("Content-Encoding", "identity").lower() != "identity":
-        raise Problem(415, "a file is stored as it comes: send it without Content-Encoding")
+        raise Problem(415, "a file is stored as it is sent: send it without Content-Encoding")
     if "Content-Range" in request.headers:
-        raise Problem(400, "what is stored begins where the request does: send it without Content-Range")
+        raise Problem(400, "a file is stored from its first byte on: send it without Content-Range")
 
 
 class Publisher:
-    """Stores files for whoever may. `used` is the database of what tokens have used."""
+    """Stores files. `used` is the path of the database of what tokens have used."""
 
     def __init__(self, network: Network, reader: Reader, lister: Lister, options: Options):
         self.network, self.reader, self.lister, self.options = network, reader, lister, options
@@ -67,7 +68,8 @@ class Publisher:
             self.shares.close()
 
     async def body(self, request: web.Request, most: int, charge: Charge, sum: Optional[Any]) -> AsyncIterator[bytes]:
-        """The bytes of an upload, at most so many, whole or not at all."""
+        """Yields the parts of an upload as they arrive, charged to `charge` and hashed into `sum`. Raises `Problem` for
+        more than `most` bytes, a slow or broken transfer, or another SHA-256 than promised."""
         size, pace, promised = 0, Pace(), digests.promised(request)
         if "Expect" in request.headers and request.version == aiohttp.HttpVersion11:
             await request.writer.write(b"HTTP/1.1 100 Continue\r\n\r\n")
@@ -76,7 +78,7 @@ class Publisher:
                 async with pace.next():
                     part = await request.content.readany()
             except TimeoutError:
-                raise Problem(408, f"too little came for too long: {size} bytes; send the file again") from None
+                raise Problem(408, f"the upload was too slow: {size} bytes; send the file again") from None
             except (OSError, web.PayloadAccessError) as fault:
                 raise Problem(400, f"the upload broke off after {size} bytes: {fault}") from None
             if not part:
@@ -106,13 +108,14 @@ class Publisher:
             try:
                 return await self.writer.store_bundle(kind, charge.replace, stream, epochs, stored)
             except BaseException:
-                charge.replace(0)  # nothing was stored of it, however long the form was
+                charge.replace(0)  # nothing of it was stored, however long the form was
                 raise
 
         return await self.upload(request, LONGEST_FORM, charge, store)
 
     def rights(self, request: web.Request, refusal: str) -> dict[str, Any]:
-        """What whoever asks may store, unless that is refused: for how long, how large a file, and how much is left."""
+        """Returns what the client may store: for how long, how large a file, and its share so far. `refusal` is why it
+        may store nothing, or empty."""
         token, epoch = request["token"], self.network.ledger.writing_epoch
         told = {"name": token.name if token else None, "store": not refusal, "why": refusal}
         told |= {"epochs": self.longest(request), "most": min(self.options.most, LONGEST), "share": {}}
@@ -124,16 +127,17 @@ class Publisher:
         return told
 
     def longest(self, request: web.Request) -> int:
-        """For how many epochs whoever asks may have a file kept."""
+        """Returns the most epochs for which the client may have a file kept."""
         token = request["token"]
         bound: Optional[int] = token.bounds["epochs"] if token else None
         return self.options.epochs if bound is None else min(bound, self.options.epochs)
 
     def epochs(self, request: web.Request) -> int:
-        """For how many epochs a file is to be kept: so many, or as many as a length of time has by the calendar."""
+        """Returns for how many epochs a file is to be kept: the number in `epochs`, or by the calendar those that the
+        time in `for` takes. Raises `Problem` if neither or both are given, or if it is too long."""
         told, length, longest = request.query.get("epochs"), request.query.get("for"), self.longest(request)
         if told is not None and length is not None:
-            raise Problem(400, "say epochs or for, and not both")
+            raise Problem(400, "send either epochs or for, not both")
         epochs = int(told) if told and re.fullmatch("[1-9][0-9]{0,4}", told) else 0
         if length is not None:
             epochs = self.epochs_in(length)
@@ -146,7 +150,8 @@ class Publisher:
         return epochs
 
     def epochs_in(self, length: str) -> int:
-        """For how many epochs a blob is kept at least so long, as far as the operator's calendar goes."""
+        """Returns how many epochs last at least that long by the operator's calendar. Raises `Problem` if there is no
+        calendar, or `length` is malformed."""
         ledger = self.network.ledger
         told = {"calendar": calendar_of(ledger), "epoch": ledger.epoch, "moving": ledger.moving}
         try:
@@ -156,11 +161,11 @@ class Publisher:
 
     async def extend(self, request: web.Request) -> web.Response:
         epochs, charge, name = self.epochs(request), self.charge(request), named(request)
-        async with self.uploads.take(owner_of(request)):  # a folder has many blobs, of which nodes are asked
+        async with self.uploads.take(owner_of(request)):  # a folder may have many blobs, for which nodes are asked
             return as_json(await self.lister.extend(name, epochs, charge))
 
     def charge(self, request: web.Request) -> Charge:
-        """What counts what a request stores, as a share of the token that it shows."""
+        """Returns what counts the bytes and blobs of a request towards the share of its token, if it has one."""
         token = request["token"]
         if token and self.shares is None:
             self.shares = Shares(pathlib.Path(self.used))
@@ -174,7 +179,7 @@ class Publisher:
         store: Store,
         is_file: bool = False,
     ) -> web.Response:
-        """Has an upload of at most so many bytes stored once it is its turn."""
+        """Waits for a turn, stores an upload of at most `most` bytes, and returns the response. Raises `Problem`."""
         epochs = self.epochs(request)
         must_be_plain(request)
         if (request.content_length or 0) > most:
@@ -199,7 +204,7 @@ class Publisher:
 
 
 def failed_with(fault: Exception, stored: list[str], headers: Optional[dict[str, str]] = None) -> Problem:
-    """Why a file was not stored, and which of its pieces are certified: the next try does not store these again."""
+    """Returns the error for a file that was not stored. It lists the certified pieces, which are not stored again."""
     problem = problem_of(fault)
     problem.headers = {**problem.headers, **(headers or {})}
     if stored:
@@ -208,7 +213,8 @@ def failed_with(fault: Exception, stored: list[str], headers: Optional[dict[str,
 
 
 def as_known(told: Told) -> Told:
-    """What is told of a stored file, with what gateways of Walrus tell: `newlyCreated`, or `alreadyCertified`."""
+    """Returns what is reported of a stored file in the form of Walrus' gateways: with `newlyCreated` if it is new, or
+    else `alreadyCertified`."""
     name = base64.urlsafe_b64encode(bytes.fromhex(told["blobId"])).decode().rstrip("=")
     rest = {it: value for it, value in told.items() if it != "alreadyCertified"}
     if told["alreadyCertified"]:

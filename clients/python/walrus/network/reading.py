@@ -1,4 +1,4 @@
-"""The aggregator: files over HTTP, whole or in ranges, from blobs that are checked and kept in a cache."""
+"""The aggregator: sends files over HTTP, whole or in ranges, from verified blobs that are kept in a cache."""
 import asyncio
 import collections
 import contextlib
@@ -22,31 +22,31 @@ from .problems import ALONE, BAD, NO_BLOB, Problem
 from .turns import ASKING, PARTS, WAITING, Together, Turns, owner_of
 
 SLICE, KIND = 262_144, "application/octet-stream"
-PART = 65_536  # bytes of a text that go out at once
-BARE, READINGS = 73_400_320, 16  # bytes of a gateway that does nothing; blobs that are read at once, if memory allows
-AHEAD = 5  # pieces of a file that are read at once for who takes it
-SILENCE, SUMS = 30.0, 65_536  # seconds in which a slice must go out or anything come in; digests that are kept
-GRACE, LEAST = 60.0, 32_768  # seconds for which a client may be slower than so many bytes a second, in all
+PART = 65_536  # bytes of a text that are sent at once
+BARE, READINGS = 73_400_320, 16  # bytes that an idle gateway takes; blobs that are read at once, if memory allows
+AHEAD = 5  # pieces of a file that are read at once for one client
+SILENCE, SUMS = 30.0, 65_536  # deadline in seconds to send a slice or receive anything; the most digests that are kept
+GRACE, LEAST = 60.0, 32_768  # seconds that a client may lag in all behind this rate, in bytes a second
 FOREVER = {"Cache-Control": "public, max-age=31536000, immutable", "Accept-Ranges": "bytes"}
 
 
 class Reader:
-    """Reads files of a network for whoever asks."""
+    """Reads files of a network for the gateway's clients."""
 
     def __init__(self, network: Network, options: Options):
         self.network, self.options = network, options
         self.memory = Memory(max(0, options.memory - BARE))
         self.cache = Cache(self.fetch, options.room, READINGS)
-        self.readings = Turns(READINGS, READINGS // 2)  # so that nobody waits for all that another one has read
-        self.ahead = set["asyncio.Task[None]"]()  # what is read before it is wanted
+        self.readings = Turns(READINGS, READINGS // 2)  # so that no client waits for everything that another one reads
+        self.ahead = set["asyncio.Task[None]"]()  # reads of pieces that are needed next
         self.bytes, self.lengths = collections.Counter[str](), Lengths(network)
-        self.rejected: Callable[[bytes], None] = lambda identifier: None  # is told what was badly encoded
+        self.rejected: Callable[[bytes], None] = lambda identifier: None  # called for each badly encoded blob
         self.sendings = Turns(options.connections, max(1, options.room // client.LARGEST_BLOB // PARTS))
-        self.together = Together(self.sendings, self.sendings.each // PARTS)  # who sends one piece often holds it once
+        self.together = Together(self.sendings, self.sendings.each // PARTS)  # one place for a piece sent many times
         self.sums: "collections.OrderedDict[bytes, bytes]" = collections.OrderedDict()
 
     def must_stand(self, name: bytes) -> None:
-        """Raises where it is known that a blob, or a member of it, cannot be read."""
+        """Raises `Problem` if the ledger shows that a blob, or a member of it, cannot be read."""
         ledger, identifier = self.network.ledger, name[:NAME]
         if ledger.invalid(identifier):
             raise Problem(410, BAD, invalid=True)
@@ -56,13 +56,13 @@ class Reader:
             raise Problem(404, "the blob is registered, but too few shards have acknowledged it: it may come yet")
 
     def stands(self, name: bytes) -> bool:
-        """Whether the ledger has a certificate for a blob, which is not invalid."""
+        """Whether the ledger has a certificate for a blob and does not declare it invalid."""
         ledger, identifier = self.network.ledger, name[:NAME]
         return bool(ledger.certificate(identifier)) and not ledger.invalid(identifier)
 
     async def fetch(self, name: bytes, size: int) -> bytes:
-        """A blob, or a member of it, as the network has it; in a file, where it is large. Who says that it is less than
-        the largest is not believed."""
+        """Reads a blob, or a member of it, from the network; a large one is returned in a file without a name. It takes
+        memory for the largest blob; if that is short, nodes are asked for the length, as `size` is only a claim."""
         number = int.from_bytes(name[NAME:], "big") if name[NAME:] else None
         length: Optional[int] = client.LARGEST_BLOB
         if size != length and self.memory.is_short(sum(reading_needs(client.LARGEST_BLOB))):
@@ -75,24 +75,24 @@ class Reader:
             except client.BadlyEncoded:
                 self.rejected(name[:NAME])
                 raise
-            pool = self.network.walrus.pool  # and not asyncio's own, which looks names up, perhaps for long
+            pool = self.network.walrus.pool  # not asyncio's own, in which name look-ups may take long
             return await asyncio.get_running_loop().run_in_executor(pool, put_away, blob) if len(blob) > SLICE else blob
 
     @contextlib.asynccontextmanager
     async def blob(self, identifier: bytes, size: Optional[int] = None) -> AsyncIterator[bytes]:
-        """A blob, of this size, while it is used."""
+        """Holds a blob in the cache while the context runs. Raises `Problem` if it has another length than `size`."""
         self.must_stand(identifier)
         async with contextlib.AsyncExitStack() as stack:
-            is_begun = identifier in self.cache.entries  # and so needs no place for a second reading
+            is_begun = identifier in self.cache.entries  # if so, no second read begins, and it needs no place
             turn = contextlib.nullcontext() if is_begun else self.readings.take(ASKING.get())
-            async with turn, asyncio.timeout(WAITING):  # who has waited for a place has time to read
+            async with turn, asyncio.timeout(WAITING):  # counted from when it has its place
                 found = await stack.enter_async_context(self.cache.use(identifier, size or 0))
             if size not in (None, len(found)):
-                raise Problem(410, "the file's list is false: a piece of it has another length", invalid=True)
+                raise Problem(410, "the file's list is false: one of its pieces has another length", invalid=True)
             yield found
 
     async def answer(self, request: web.Request, name: bytes) -> web.StreamResponse:
-        """The response to a GET or a HEAD of a file."""
+        """Answers a GET or a HEAD of a file."""
         self.must_stand(name)
         number = f"/{int.from_bytes(name[NAME:], 'big')}" if name[NAME:] else ""
         tag = f'"{name[:NAME].hex()}{number}"'
@@ -109,7 +109,7 @@ class Reader:
         return await self.give(request, file, tag, headers)
 
     async def digest(self, name: bytes, blob: bytes) -> dict[str, str]:
-        """The headers with a blob's SHA-256, which is computed once, and beside what others ask."""
+        """Returns the headers with a blob's SHA-256. It is computed once, in a thread, so that others need not wait."""
         found = self.sums.get(name)
         if found is None:
             pool = self.network.walrus.pool
@@ -120,7 +120,8 @@ class Reader:
         return digests.fields(found)
 
     def condition(self, request: web.Request, tag: str, headers: dict[str, str]) -> Optional[web.Response]:
-        """What is answered to a condition, where it does not ask for the file of this tag."""
+        """Returns 304 if `If-None-Match` names this tag, and None if the file is to be sent. Raises `Problem` (412) if
+        `If-Match` names only other tags."""
         if "If-Match" in request.headers and not tagged(request.headers.getall("If-Match"), tag):
             raise Problem(412, "the only tag of this file is its identifier", headers)
         if tagged([it.replace("W/", "") for it in request.headers.getall("If-None-Match", [])], tag):
@@ -136,15 +137,16 @@ class Reader:
             asked = ranges.spans(",".join(request.headers.getall("Range")), file.length)
         if asked == []:
             headers["Content-Range"] = f"bytes */{file.length}"
-            raise Problem(416, f"the file has {file.length} bytes, and none of these", headers)
+            raise Problem(416, f"the file has {file.length} bytes, and none in these ranges", headers)
         return await self.send(request, file, asked, headers, kind)
 
     async def length_alone(self, request: web.Request, name: bytes) -> Optional[int]:
-        """The length of a file that is not read for it; None where a request needs more, or its metadata tells less."""
+        """Returns the length of a file from its metadata, without reading it. None if the request needs more, if the
+        file is in the cache, or if the metadata does not settle it."""
         if request.method != "HEAD" or name[NAME:] or name in self.cache.entries or digests.wanted(request):
             return None
         turn = contextlib.nullcontext() if name in self.lengths.known else self.readings.take(ASKING.get())
-        async with turn:  # shards are asked for it, of which one who asks may have no more than for reading
+        async with turn:  # shards are asked for it, so it needs the same kind of place as a read
             return await self.lengths.of_file(name)
 
     async def send(
@@ -155,7 +157,7 @@ class Reader:
         headers: dict[str, str],
         kind: str = KIND,
     ) -> web.StreamResponse:
-        """Sends a file, or spans of it; where it cannot go on, the connection ends before the length is reached."""
+        """Sends a file, or spans of it; if it cannot go on, the connection ends before `Content-Length` is reached."""
         spans, bound = asked or [(0, file.length)], secrets.token_hex(16)
         heads = ranges.heads(spans, file.length, kind, bound) if len(spans) > 1 else [b"", b""]
         size = sum(end - start for start, end in spans) + sum(map(len, heads))
@@ -169,7 +171,7 @@ class Reader:
             await response.prepare(request)
             return response
         self.read_ahead(itertools.islice(file.pieces(*spans[0]), 1, AHEAD))
-        for name, length, _, _ in file.pieces(*spans[0]):  # the first piece is there before anything is said
+        for name, length, _, _ in file.pieces(*spans[0]):  # the first piece must be read before the response begins
             async with self.blob(name, length):
                 break
         await response.prepare(request)
@@ -182,7 +184,7 @@ class Reader:
         return response
 
     def read_ahead(self, pieces: Iterable[tuple[bytes, int, int, int]]) -> None:
-        """Has pieces read, as far as who wants them has places for that, and one more for what is wanted now."""
+        """Begins to read pieces that are needed next, as far as the client's places allow while one stays free."""
         left = self.readings.left(ASKING.get()) - 1
         for name, size, _, _ in pieces:
             if left > 0 and self.stands(name) and name not in self.cache.entries:
@@ -197,7 +199,7 @@ class Reader:
         await self.cache.close()
 
     async def have_read(self, name: bytes, size: int) -> None:
-        with contextlib.suppress(Exception):  # which is told to who wants it then
+        with contextlib.suppress(Exception):  # the send that needs the piece reads it again, and reports the error
             async with self.blob(name, size):
                 pass
 
@@ -207,7 +209,7 @@ class Reader:
         self.read_ahead(itertools.islice(file.pieces(*span), 1, AHEAD))
         following = itertools.islice(file.pieces(*span), AHEAD, None)
         for name, size, start, end in file.pieces(*span):
-            taking = self.together.take(owner, name, size <= SLICE)  # who is slow with it keeps it from being dropped
+            taking = self.together.take(owner, name, size <= SLICE)  # a slow client keeps its piece in the cache
             async with taking, self.blob(name, size) as blob:
                 self.read_ahead(itertools.islice(following, 1))
                 for place in range(start, end, SLICE):
@@ -223,14 +225,14 @@ class Reader:
 
 
 class Pace:
-    """How fast a client takes or gives bytes, not counting what the gateway itself needs, or has it wait for."""
+    """The pace at which a client takes or sends bytes; time for which it waits for the gateway does not count."""
 
     def __init__(self, flow: Optional[Flow] = None) -> None:
         self.allowed, self.flow = GRACE, flow
 
     @contextlib.asynccontextmanager
     async def next(self, size: int = 0) -> AsyncIterator[None]:
-        """Raises `TimeoutError` where a step of a client, of this size as far as that is known, takes too long."""
+        """Times one step of a client, of `size` bytes if that is known; raises `TimeoutError` if it takes too long."""
         clock = asyncio.get_running_loop().time
         begun = clock()
         async with asyncio.timeout(min(SILENCE, self.allowed)):
@@ -242,7 +244,7 @@ class Pace:
 
 @contextlib.contextmanager
 def ending_early(request: web.Request) -> Iterator[None]:
-    """Ends the connection where a reply that has begun cannot go on."""
+    """Logs the error and ends the connection if a response that has begun cannot go on."""
     try:
         yield
     except (Problem, client.Failed, TimeoutError, OSError) as fault:
@@ -252,8 +254,8 @@ def ending_early(request: web.Request) -> Iterator[None]:
 
 
 async def send_text(request: web.Request, text: bytes, headers: dict[str, str]) -> web.StreamResponse:
-    """Sends a text that may be long, in parts. Of one that is in a file, or that others have too, who does not read it
-    has no more in memory than the parts that were sent last."""
+    """Sends a text that may be long, in parts. If it is in a file, or shared with others, a client that does not read
+    holds no more memory than the last parts."""
     response = web.StreamResponse(headers={**headers, "Content-Length": str(len(text))})
     await response.prepare(request)
     pace = Pace(request.get("flow"))
@@ -267,5 +269,5 @@ async def send_text(request: web.Request, text: bytes, headers: dict[str, str]) 
 
 
 def tagged(fields: Iterable[str], tag: str) -> bool:
-    """Whether the fields of a condition name a tag, or any."""
+    """Whether a conditional header's values contain a tag, or `*` for any."""
     return any(word.strip() in ("*", tag) for field in fields for word in field.split(","))

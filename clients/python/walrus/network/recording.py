@@ -218,7 +218,7 @@ async def serve(settings: RecorderSettings) -> int:
     except (Broken, OSError, sqlite3.Error) as fault:
         told = f": restore it (network/OPERATING.md), or remove {settings.state}" if isinstance(fault, Broken) else ""
         if type(fault) is sqlite3.DatabaseError:
-            told = f": {settings.state} is damaged: start the recorder again, and it makes a new one"
+            told = f": {settings.state} is torn: start the recorder again, and it makes a new one"
         print(f"{settings.name} must stop: {fault}{told}", file=sys.stderr, flush=True)
         return 1
     finally:

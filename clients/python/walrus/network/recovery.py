@@ -1,4 +1,4 @@
-"""How a node recovers blobs for its shards from the others: many at once, asking as few of the others as will do."""
+"""How a node recovers its shards' blobs from other nodes: many blobs at once, from no more nodes than needed."""
 import asyncio
 import contextlib
 import dataclasses
@@ -24,16 +24,16 @@ if TYPE_CHECKING:
     from .node import Node
 
 FRONT = 40  # bytes of a sliver before its symbols
-LANES, SEATS = 8, 256  # blobs that are recovered at once as far as memory goes, and connections for all of these
-PAGE = 1_000  # blobs that are looked at before others have a turn
-MANY = 100_000  # of what is lacking that is listed in memory at once, however much it is
-Lack = NamedTuple("Lack", [("shard", Shard), ("identifier", bytes)])  # a blob for which a shard is not settled
+LANES, SEATS = 8, 256  # blobs recovered at once, if memory allows; connections for all of them
+PAGE = 1_000  # blobs that are looked at before other tasks get a turn
+MANY = 100_000  # missing blobs that are listed in memory at once, however many there are
+Lack = NamedTuple("Lack", [("shard", Shard), ("identifier", bytes)])  # a blob that a shard lacks
 
 
 @dataclasses.dataclass
 class Progress:
-    """How far a node is with what it recovers: blobs of its shards, of how many, and bytes of their slivers, of those
-    that are measured."""
+    """Progress of a recovery: `blobs` of the `of` that shards lack, and bytes of their slivers, of the `of_bytes` that
+    are measured so far."""
 
     epoch: int = 0
     of: int = 0
@@ -43,8 +43,8 @@ class Progress:
 
 
 class Once(client.Shard):
-    """A shard that is asked in one exchange for all symbols that are still wanted when it is first asked for one. A
-    long proof in its reply is read past, and asked for alone."""
+    """A shard at another node. When it is first asked for a symbol, one exchange asks for all that are still wanted.
+    A long proof in its reply is skipped, and asked for separately."""
 
     def __init__(self, seat: Seat, wanted: Collection[bytes]):
         super().__init__(seat.number, seat.shape.faults)
@@ -58,11 +58,11 @@ class Once(client.Shard):
         if not self.asked:
             self.sent = [*self.wanted]
             self.asked = asyncio.create_task(self.seat.ask(*map(Asked.alone, self.sent)))
-            self.asked.add_done_callback(lambda it: it.cancelled() or it.exception())  # also where nobody waits
+            self.asked.add_done_callback(lambda it: it.cancelled() or it.exception())  # even if nobody waits
         try:
             replies = await asyncio.shield(self.asked)
         except ConnectionError:
-            self.late = True  # perhaps by its deadline, with nobody left whom to ask in its place
+            self.late = True  # it may have missed its deadline with no other shard left to ask
             raise
         self.late = False
         if len(replies) < len(self.sent):
@@ -71,8 +71,8 @@ class Once(client.Shard):
 
 
 class Own(client.Shard):
-    """The shard that recovers. One of its slivers has a symbol of the other one, which counts as any other does: with f
-    silent shards no more than 2f others are left, and a primary sliver takes 2f+1."""
+    """The shard that recovers. Each of its slivers has a symbol of the other one, which counts like any other: with f
+    silent shards only 2f others may be left, and a primary sliver takes 2f+1 symbols."""
 
     def __init__(self, shard: Shard):
         super().__init__(shard.number, shard.ledger.faults)
@@ -80,7 +80,7 @@ class Own(client.Shard):
 
     async def ask(self, *requests: client.Request) -> list[client.Reply]:
         [request] = map(bytes, requests)  # type: ignore[arg-type]
-        answering = asyncio.create_task(self.shard.answer(request))  # it ends where nobody waits, as it has memory
+        answering = asyncio.create_task(self.shard.answer(request))  # it runs on if nobody waits, as it holds memory
         answering.add_done_callback(lambda it: it.cancelled() or it.exception())
         *found, end = await asyncio.shield(answering)
         kept = {kind: bytes(it) for it in found if (kind := self.shape.keeps(it, request, self.number))}
@@ -89,8 +89,8 @@ class Own(client.Shard):
 
 @contextlib.asynccontextmanager
 async def passing(who: str, what: str, seconds: float = 0) -> AsyncIterator[None]:
-    """Says what the system or others let fail, such as where no descriptor is left, and waits: it is tried again. What
-    must end the node goes through."""
+    """Report a temporary fault of the system or of others, such as no free descriptor, and wait before the caller tries
+    again. Faults that must end the node are raised."""
     try:
         yield
     except (OSError, Busy, sqlite3.OperationalError) as fault:
@@ -99,16 +99,16 @@ async def passing(who: str, what: str, seconds: float = 0) -> AsyncIterator[None
 
 
 async def by_lanes(node: "Node", lacks: Iterable[Lack], step: Callable[[Lack], Awaitable[None]]) -> None:
-    """Takes a step for each blob, several at once. What fails comes again."""
+    """Run a step for each blob, several at once. A step that fails is reported; a later round tries that blob again."""
 
     async def take(lack: Lack) -> None:
-        await asyncio.sleep(0)  # others have a turn, as no step of many may have to wait for anything
+        await asyncio.sleep(0)  # a turn for others, as possibly no step waits for anything
         try:
             async with passing(lack.shard.title, lack.identifier.hex()):
                 await step(lack)
         except (Clash, sqlite3.Error):
-            raise  # of digests, or of the disk: the node must not go on
-        except Exception as fault:  # whatever others reply, this node goes on
+            raise  # a hash collision or a torn database: the node must stop
+        except Exception as fault:  # whatever other nodes reply, this one goes on
             said = f"{lack.identifier.hex()}: {type(fault).__name__}: {fault}"
             print(f"{lack.shard.title}: {said}", file=sys.stderr, flush=True)
 
@@ -116,11 +116,11 @@ async def by_lanes(node: "Node", lacks: Iterable[Lack], step: Callable[[Lack], A
 
 
 async def settle(node: "Node", epoch: int, owed: Collection[bytes] | Owed) -> int:
-    """Fills the node's shards of an epoch with what they owe, so many blobs at once in the order of their names; how
-    many they lack still. All of them are counted first."""
+    """Recover what the node's shards of an epoch lack of the blobs owed, about MANY at a time in the order of their
+    names. All that is missing is counted first. Return how many are still missing."""
     losses, left, progress = node.store.losses, 0, Progress(epoch)
     async for lacks in lacking(node, epoch, owed):
-        if not lacks[0].shard.free_pages(LAST):  # what comes could not be kept, so the rest is not looked at
+        if not lacks[0].shard.free_pages(LAST):  # it could not be kept, so the rest is not looked at
             tell_full(node)
             return len(lacks)
         progress.of += len(lacks)
@@ -128,12 +128,12 @@ async def settle(node: "Node", epoch: int, owed: Collection[bytes] | Owed) -> in
         left += await recover_all(node, lacks, progress)
     progress.of = progress.blobs + left  # clients may have stored some of them meanwhile
     kept = await node.store.durable() and node.store.losses == losses
-    return left if kept else max(1, left)  # the disk has lost something that was there when it was looked at
+    return left if kept else max(1, left)  # the disk has lost something that it had before
 
 
 async def lacking(node: "Node", epoch: int, owed: Iterable[bytes] | Owed) -> AsyncIterator[list[Lack]]:
-    """What the node's shards of an epoch want of these blobs, MANY or a few more at once. It is found page by page, so
-    that it holds up nobody else. Of all that is owed most is there; of a few blobs each is looked at alone."""
+    """Yield lists of what the node's shards of an epoch want of these blobs, each of about MANY at most. They are found
+    page by page, so that other tasks get turns. Of an `Owed` most are there, so one query reads those of a page."""
     shards, names, lacks = [*node.sides.get(epoch, {}).values()], iter(owed), list[Lack]()
     while some := [*itertools.islice(names, PAGE)]:
         for shard in shards:
@@ -150,10 +150,10 @@ async def lacking(node: "Node", epoch: int, owed: Iterable[bytes] | Owed) -> Asy
 
 
 async def recover_all(node: "Node", work: list[Lack], progress: Progress) -> int:
-    """Recovers what shards lack, large blobs first and several at once; how many are lacking still. Certified ones come
-    before the others, of which perhaps nobody has anything. Who is late is waited for once all of them had their turn:
-    nodes that recover the same then have what they got from the others, and give each other the rest. For blobs without
-    a certificate it is waited for a few times only, and asked for the rest if it replies."""
+    """Recover what shards lack, several blobs at once and large ones first; return how many are still missing.
+    Certified blobs come before others, of which possibly nobody has anything. Late nodes are waited for only once all
+    blobs have had their turn: nodes that recover the same blobs can then give each other the rest. For blobs without
+    a certificate that is done for a few only; if the late node replies, it is asked about the others too."""
     sizes, put_off, certified, others = dict[Lack, int](), list[Lack](), list[Lack](), list[Lack]()
     if not work[0].shard.free_pages(LAST):  # what comes could not be kept
         tell_full(node)
@@ -165,13 +165,13 @@ async def recover_all(node: "Node", work: list[Lack], progress: Progress) -> int
 
     async def measure(lack: Lack) -> None:
         if node.store.wrong(lack.shard.holding, lack.identifier):
-            await lack.shard.check(lack.identifier)  # it is right after all if the disk had failed for a moment
+            await lack.shard.check(lack.identifier)  # it is sound if only the disk had failed for a moment
         if lack.shard.wants(lack.identifier) and (metadata := await find_metadata(node, *lack)):
             sizes[lack] = sum(node.port.shape.symbols) * node.port.shape.symbol_of(metadata)
             progress.of_bytes += sizes[lack]
 
     async def recover(how: Callable[..., Awaitable[bool]], lack: Lack) -> None:
-        async with node.store.alone(lack.shard.holding, lack.identifier, "recover"):  # others may lack it too
+        async with node.store.alone(lack.shard.holding, lack.identifier, "recover"):  # other tasks may do so too
             if lack.shard.wants(lack.identifier) and await how(node, *lack):
                 put_off.append(lack)
         if lack.shard.settled(lack.identifier):
@@ -189,34 +189,34 @@ async def recover_all(node: "Node", work: list[Lack], progress: Progress) -> int
     for place in range(0, len(work), PAGE):
         left += sum(not shard.settled(it) for shard, it in work[place : place + PAGE])  # noqa: E203
         await asyncio.sleep(0)
-    return left  # with what the disk lost meanwhile
+    return left  # including what the disk lost meanwhile
 
 
 def tell_full(node: "Node") -> None:
-    """Says that there is no room for what would be recovered."""
-    node.port.tell(f"{node.name}: the disk has no room for what is lacking (network/OPERATING.md)", "room")
+    """Report that the disk has no room for what would be recovered."""
+    node.port.tell(f"{node.name}: the disk has no room for the missing blobs (network/OPERATING.md)", "room")
 
 
 def sides(node: "Node") -> list[Sequence[Seat]]:
-    """The shards of the committee of now, and of the next one, which may be asked."""
+    """Return the shards that may be asked: those of the present committee, and of the next one if there is one."""
     return [node.peers.seats(it, node.ledger.faults) for it in (node.ledger.now, node.ledger.next) if it]
 
 
 def rounds(node: "Node", own: int, late: bool) -> tuple[list[list[Seat]], bool]:
-    """The shards beside the node's own one that are asked for a blob, one side after the other, and whether some are
-    left out. Those that were late are asked last, and only if told so: so who says nothing holds up nothing that the
-    others have, such as a proof of bad encoding, for which all of them are heard."""
+    """Return groups of other shards to ask for a blob, one after the other, and whether some are left out. Those that
+    were late are asked last, and only if `late`. So a silent shard delays nothing that the others have, such as a proof
+    of bad encoding, for which all of them are heard."""
     whole = [[it for it in side if (it.name, it.number) != (node.name, own)] for side in sides(node)]
     prompt = [[it for it in side if not it.late] for side in whole]
-    enough = 2 * node.ledger.faults if late else node.ledger.faults + 1  # for all of it, or for a secondary sliver
+    enough = 2 * node.ledger.faults if late else node.ledger.faults + 1  # for all of it; for a secondary sliver
     asked = [some for some in prompt if len(some) >= enough]
     others = [side for some, side in zip(prompt, whole) if len(some) < len(side)]
     return (asked + others, False) if late else (asked, bool(others))
 
 
 async def find_metadata(node: "Node", shard: Shard, identifier: bytes, late: bool = False) -> bytes:
-    """A blob's metadata, which the shard holds from here on; nothing where nobody has it. Who is late, or comes to be,
-    is waited for only if told so."""
+    """Return a blob's metadata, which the shard then holds; empty if nobody has it. Shards that are or become late are
+    waited for only if `late`."""
 
     async def is_it(found: bytes) -> bool:
         fits = bool(found) and name_of(found) == identifier
@@ -226,7 +226,7 @@ async def find_metadata(node: "Node", shard: Shard, identifier: bytes, late: boo
         for part in node.store.parts(own.holding, own.epoch, identifier, [METADATA]):
             if own is shard or await is_it(part.payload):
                 return part.payload
-    wanted = client.Symbol(identifier, client.PRIMARY, 999)  # which brings little else
+    wanted = client.Symbol(identifier, client.PRIMARY, 999)  # a symbol that no shard has, so the reply has little else
     seats = [it for it in itertools.chain(*sides(node)) if late or not it.late]
     listening, are_prompt = client.Listening(seats, Asked.of(client.write_frame(wanted), 0, 0)), True
     try:
@@ -243,36 +243,36 @@ async def find_metadata(node: "Node", shard: Shard, identifier: bytes, late: boo
 
 
 async def fill(node: "Node", shard: Shard, identifier: bytes, late: bool = False) -> bool:
-    """Recovers what a shard lacks of a blob from the others, also from those that are late if told so; whether they may
-    have what is lacking still. A proof of bad encoding in its place is attested."""
+    """Recover what a shard lacks of a blob from the others, even from late ones if `late`. Return whether shards that
+    were left out may have what is still missing. If a proof of bad encoding comes instead, attest it."""
     if not (metadata := await find_metadata(node, shard, identifier, late)):
         return not late and any(it.late for side in sides(node) for it in side)
     shape, own = node.port.shape, shard.number
     crossing = shape.shards - 1 - own if metadata[0] == client.SECOND_METADATA else own
     targets = {PRIMARY: client.Symbol(identifier, 0, own), SECONDARY: client.Symbol(identifier, 1, crossing)}
     lacks = {*targets} & {*shard.lacks(identifier)}
-    counts = [shape.symbols[it - PRIMARY] for it in lacks]  # of symbols that come, and of which a sliver is made
+    counts = [shape.symbols[it - PRIMARY] for it in lacks]  # symbols of each missing sliver
     symbol = shape.symbol_of(metadata)
     size = (sum(counts) + max(counts, default=0)) * (symbol + 1_024)
     async with node.repairs.take(size, None):
-        if pages(FRONT + count * symbol for count in counts) > shard.free_pages(LAST):  # it would come for nothing
+        if pages(FRONT + count * symbol for count in counts) > shard.free_pages(LAST):  # it could not be kept
             tell_full(node)
             return False
         asked_in, are_left_out = rounds(node, own, late)
         for side in asked_in:
             wanted = {part: client.write_frame(targets[part]) for part in lacks & {*shard.lacks(identifier)}}
             others = [Once(it, wanted.values()) for it in side]
-            for part in sorted(wanted, reverse=True):  # the secondary sliver first, for which few symbols will do
+            for part in sorted(wanted, reverse=True):  # the secondary sliver first, which takes fewer symbols
                 asked: list[client.Shard] = [*others]
-                if PRIMARY + SECONDARY - part not in shard.lacks(identifier):  # the other one, once it is there
-                    asked = [*(it for it in others if it.number != own), Own(shard)]  # not who had its number
+                if PRIMARY + SECONDARY - part not in shard.lacks(identifier):  # once the other sliver is there
+                    asked = [*(it for it in others if it.number != own), Own(shard)]  # not a shard with the same number
                 with contextlib.suppress(client.Refused):
                     if not shard.settled(identifier):
                         found = client.recover(asked, targets[part], node.judges)  # type: ignore[arg-type]
-                        await shard.put((await found)[1], True)  # of which nothing is in memory then
+                        await shard.put((await found)[1], True)  # in one expression, so that no copy stays in memory
                 del wanted[part]
                 for it in others:
-                    it.late = it.late or it.asked is None  # who was asked has said the rest already
+                    it.late = it.late or it.asked is None  # whoever was asked has sent the rest already
             for it in others:
                 it.seat.late = it.late if it.asked else it.seat.late
     if shard.vouches(ATTEST, identifier) and not shard.vouches(ACK, identifier):
@@ -281,7 +281,7 @@ async def fill(node: "Node", shard: Shard, identifier: bytes, late: bool = False
 
 
 async def attest(node: "Node", shard: Shard, identifier: bytes) -> None:
-    """Has the node attest a proof. If the ledger is away, `heal` has it do so later."""
+    """Attest a proof of bad encoding. If the ledger is away, `heal` does so later."""
     said = await node.vouch(ATTEST, shard, frames.write_frame(frames.Attest(identifier)))
     if code_of(said) == client.LEDGER_AWAY[0]:
         node.unattested.add(identifier)

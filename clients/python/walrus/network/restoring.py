@@ -71,7 +71,7 @@ class Restoring(Service):
         return web.json_response({})
 
     async def digest(self, place: int, name: str) -> str:
-        """Returns the digest of all entries up to a place, in hexadecimal; an empty text if those there are dropped."""
+        """Returns the digest of all entries up to a place, in hexadecimal; an empty text if the next was dropped."""
         if place == self.recorder.chain.place:
             return self.recorder.chain.digest.hex()
         try:

@@ -1,4 +1,4 @@
-"""Large files to a gateway, which go on after a break, and with the next command for the same file."""
+"""Sends large files to a gateway as resumable uploads, which the next command for the same file continues, too."""
 import asyncio
 import contextlib
 import hashlib
@@ -17,23 +17,23 @@ from .transfers import PART, TRIES, Bar, Failure, ask, check, must_name, naming_
 from .unfinished import IDLE
 
 KIND = "application/partial-upload"
-AGAIN = 408, 409, 429, 502, 503, 504  # after which what has come is still there
+AGAIN = 408, 409, 429, 502, 503, 504  # statuses after which the gateway still has what arrived
 BROKEN = aiohttp.ClientConnectionError, aiohttp.ClientPayloadError, TimeoutError
 
 
 class Broken(Exception):
-    """An upload that can go on."""
+    """An upload broke off, and can be continued."""
 
 
 class Known:
-    """Where uploads of this user go on, in a file; without that file each command begins anew."""
+    """The file with the URLs of this user's unfinished uploads. Without it each command begins anew."""
 
     def __init__(self, key: list[Any]):
         home = os.environ.get("XDG_STATE_HOME") or str(pathlib.Path.home() / ".local" / "state")
         self.path, self.key = pathlib.Path(home, "walrus", "uploads.json"), name_of(key)
 
     def read(self) -> dict[str, Any]:
-        """What is known of the last day."""
+        """Returns the entries of the last day, or nothing if the file cannot be read."""
         with contextlib.suppress(OSError, ValueError, TypeError, KeyError, AttributeError):
             told = json.loads(self.path.read_text())
             return {name: it for name, it in told.items() if it["time"] > time.time() - IDLE}
@@ -44,7 +44,7 @@ class Known:
         return place if isinstance(place, str) and place.startswith("/v1/uploads/") else ""
 
     def keep(self, place: str) -> None:
-        """Notes where this upload goes on, or forgets it."""
+        """Notes the URL at which this upload continues, or forgets the upload if `place` is empty."""
         known = {name: it for name, it in self.read().items() if name != self.key}
         with contextlib.suppress(OSError):
             self.path.parent.mkdir(parents=True, exist_ok=True, mode=0o700)
@@ -58,7 +58,8 @@ def name_of(key: list[Any]) -> str:
 
 
 async def store(session: aiohttp.ClientSession, path: str, epochs: int) -> Any:
-    """Stores a file, or what standard input has; one of several pieces as an upload that goes on."""
+    """Stores a file, or standard input (`-`); a file of several pieces as a resumable upload. Returns the gateway's
+    answer, and raises `Failure` if it names another identifier than the one computed here."""
     if path == "-" or not os.path.isfile(path) or os.path.getsize(path) <= PIECE:
         return await transfers.store(session, path, epochs)
     naming = await naming_of(session)
@@ -69,7 +70,7 @@ async def store(session: aiohttp.ClientSession, path: str, epochs: int) -> Any:
         known = Known([origin, os.path.realpath(path), found.st_size, found.st_mtime_ns, epochs])
         sending = Sending(session, file, naming, bar)
         told = await sending.send(known, epochs)
-        if told is None:  # an older gateway
+        if told is None:  # an older gateway without resumable uploads
             return await transfers.store(session, path, epochs)
         await sending.name(found.st_size)
     must_name(told, await naming.identifiers(), "the file")
@@ -77,14 +78,15 @@ async def store(session: aiohttp.ClientSession, path: str, epochs: int) -> Any:
 
 
 class Sending:
-    """A file on its way."""
+    """A file that is being sent."""
 
     def __init__(self, session: aiohttp.ClientSession, file: IO[bytes], naming: Naming, bar: Bar):
         self.session, self.file, self.naming, self.bar = session, file, naming, bar
-        self.named = 0  # bytes of which the identifier is computed so far
+        self.named = 0  # bytes that went into the identifier so far
 
     async def send(self, known: Known, epochs: int) -> Any:
-        """Sends the file, or what a gateway lacks of it, until it is stored; nothing where it takes no such uploads."""
+        """Sends what the gateway lacks of the file, with retries, until it is stored; returns the answer. None if the
+        gateway has no resumable uploads. Raises `Failure` after `TRIES` breaks without progress."""
         place, tries, last = "", 0, -1
         while True:
             try:
@@ -108,7 +110,8 @@ class Sending:
                 await asyncio.sleep(2**tries / 2)
 
     async def place_of(self, known: Known, epochs: int) -> str:
-        """Where an upload goes on that began before and is kept for long enough, or else where a new one is."""
+        """Returns the URL of an earlier upload of this file that is kept for long enough, or else of a new one. It is
+        empty if the gateway has no resumable uploads."""
         if place := known.find():
             state, epoch = await self.look(place), (await ask(self.session, "GET", "/v1/status"))["epoch"]
             if state and state["endEpoch"] >= epoch + epochs:
@@ -121,12 +124,12 @@ class Sending:
             await check(said)
             place = said.headers.get("Location", "")
         if not place.startswith("/v1/uploads/"):
-            raise Failure("the gateway does not tell where the upload goes on: is this a gateway?", 1)
+            raise Failure("the gateway does not say where the upload continues: is this a gateway?", 1)
         known.keep(place)
         return place
 
     async def look(self, place: str) -> Optional[dict[str, Any]]:
-        """How far an upload is; nothing where there is none."""
+        """Returns the state of an upload, or None if the gateway has none there."""
         async with self.session.get(place) as said:
             if said.status == 404:
                 return None
@@ -135,13 +138,13 @@ class Sending:
             await check(said)
             told = await said.json()
         if not isinstance(told, dict) or not isinstance(told.get("offset"), int) or "complete" not in told:
-            raise Failure("the gateway does not tell how much has come: is this a gateway?", 1)
+            raise Failure("the gateway does not say how much it has received: is this a gateway?", 1)
         if not 0 <= told["offset"] <= self.bar.size:
-            raise Failure("the gateway says that more has come than the file has: this gateway lies", 1)
+            raise Failure("the gateway says that it received more than the file has: this gateway lies", 1)
         return told
 
     async def go_on(self, place: str, offset: int) -> Any:
-        """Sends what is lacking; what is told of the file."""
+        """Sends the file from `offset` on, and returns the gateway's answer."""
         await self.name(offset)
         self.bar.done = offset
         headers = {"Content-Type": KIND, "Upload-Offset": str(offset), "Upload-Complete": "?1"}
@@ -153,11 +156,11 @@ class Sending:
             return await said.json()
 
     async def name(self, end: int) -> None:
-        """Has the identifier computed of what is before a place."""
+        """Continues the computation of the identifier up to byte `end` of the file."""
         while self.named < end:
             part = os.pread(self.file.fileno(), min(PART, end - self.named), self.named)
             if not part:
-                raise Failure("the file has become shorter meanwhile: store it again", 1)
+                raise Failure("the file has become shorter since the command began: store it again", 1)
             self.named += len(part)
             await self.naming.add(part)
 
@@ -170,7 +173,7 @@ class Sending:
 
 
 async def text_of(said: aiohttp.ClientResponse) -> str:
-    """Why a gateway does not go on just now."""
+    """Returns the gateway's reason for an error."""
     try:
         return str((await said.json(content_type=None))["error"]["text"])
     except (ValueError, KeyError, TypeError):

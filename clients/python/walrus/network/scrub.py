@@ -1,6 +1,6 @@
-"""A scrub: all that a node holds is read and judged once in so many days, at a bounded rate. What is wrong is recovered
-from the others, and what nothing names, or has expired, is removed. Where it stands is on the disk: a start goes on
-from there."""
+"""Scrubs: everything that a node holds is read and judged once every `scrub` days, at a bounded rate. What is wrong is
+recovered from the others, and what nothing names, or what has expired, is removed. The position of a scrub is on the
+disk, and a restart continues from there."""
 import asyncio
 import contextlib
 import dataclasses
@@ -17,15 +17,15 @@ from .store import LAST
 if TYPE_CHECKING:
     from .node import Node
 
-DAY, PAUSE, LOOKED = 86_400.0, 2.0, 60.0  # seconds: until what failed is tried again; until the clock is looked at
-AT_ONCE = 500  # blobs that expire in one step
-LEAST = 65_536  # bytes that a blob counts with at least, as anybody may have many small ones judged all the time
-TRIES = 30  # of a blob, such as for want of memory or of a descriptor, until it is passed over
+DAY, PAUSE, LOOKED = 86_400.0, 2.0, 60.0  # seconds: a day; until a retry; until the clock is read again
+AT_ONCE = 500  # expired blobs that are dropped in one step
+LEAST = 65_536  # bytes that the rate counts for a blob at least, as anybody may store many small ones
+TRIES = 30  # checks of a blob that may fail, such as for lack of memory or a descriptor, before it is skipped
 
 
 @dataclasses.dataclass
 class Figures:
-    """Where a scrub stands, when it began and when the one before ended, and what it found."""
+    """The position of a scrub, when it began and when the last one ended (seconds since 1970), and what it found."""
 
     running: bool = False
     begun: float = 0.0
@@ -43,22 +43,22 @@ class Scrub:
 
     def __init__(self, node: "Node"):
         self.node, self.now, self.left = node, asyncio.Event(), asyncio.Event()
-        self.tries = 0  # of the blob behind where it stands
+        self.tries = 0  # of the next blob
         told = node.store.state("scrub")
         self.figures: Figures = Figures(**json.loads(told)) if told else Figures(ended=time.time())
         if not told:
             self.note()
-        self.left.set()  # there may be something without a name
+        self.left.set()  # a crash may have left files that nothing names
 
     def note(self) -> None:
-        """Has a start go on from here."""
+        """Stage the position, so that a restart continues from here."""
         with contextlib.suppress(sqlite3.Error):
             self.node.store.state("scrub", json.dumps(dataclasses.asdict(self.figures)))
 
     async def run(self) -> None:
-        """Scrubs when told so, and whenever it is time to: never of itself where no days are set."""
+        """Scrub whenever an operator asks, and when `scrub` days are over; if that setting is 0, only when asked."""
         while True:
-            if self.figures.ended > time.time():  # as the clock was ahead then
+            if self.figures.ended > time.time():  # the clock was ahead then
                 self.figures.ended = time.time()
                 self.note()
             due = self.figures.ended + (self.node.settings.scrub or math.inf) * DAY
@@ -72,8 +72,8 @@ class Scrub:
                 await self.scrub()
 
     async def scrub(self) -> None:
-        """Judges all that is held, from where the scrub stands. It goes on behind a blob once that is judged, so that
-        one which fails is tried again, and is passed over only if it fails so often that others would wait for long."""
+        """Judge everything held from the position on. It moves past a blob only once that is judged: a check that fails
+        is tried again, and a blob is skipped only after so many failures that others would wait too long."""
         figures, store = self.figures, self.node.store
         if not figures.running:
             self.figures = figures = Figures(True, begun=time.time(), ended=figures.ended)
@@ -84,9 +84,9 @@ class Scrub:
             (holding, identifier), sides = place, self.node.sides.values()
             shards = [it for side in sides for it in side.values() if it.holding == holding]
             if not shards:
-                place = holding, LAST  # what a shard held that is here no more is swept, and not read
+                place = holding, LAST  # of a shard that is no longer here: `sweep` deletes it
             elif self.node.caught_up and identifier not in self.node.ledger.blobs:
-                store.expire([identifier])  # its row in the ledger was lost before it was dropped
+                store.expire([identifier])  # it expired, and the ledger's row was lost before this was dropped
                 await store.durable()
             elif self.tries == TRIES:
                 told = f"the scrub passes over {identifier.hex()}, whose check failed {TRIES} times"
@@ -107,28 +107,28 @@ class Scrub:
         print(f"{self.node.name}: a scrub {told}, and swept {figures.swept} files", file=sys.stderr, flush=True)
 
     async def sweep_always(self) -> None:
-        """Drops what is over and sweeps at the start, and whenever there may be something to drop."""
+        """Drop expired blobs and sweep at the start, and whenever there may be something to drop."""
         while True:
             await self.left.wait()
             self.left.clear()
-            async with passing(self.node.name, "what is over or nothing names is swept later", PAUSE):
+            async with passing(self.node.name, "expired blobs and unnamed files are removed later", PAUSE):
                 await self.expire()
                 await self.sweep()
                 continue
             self.left.set()
 
     async def expire(self) -> None:
-        """Drops what is over, step by step; the ledger has its rows until it is off the disk. The disk may be ahead of
-        the ledger, as nodes are killed: what it has of this epoch belongs to a blob that was registered anew."""
+        """Drop expired blobs step by step; the ledger keeps their rows until they are off the disk. After a kill the
+        disk may be ahead of the ledger: parts held since this epoch are then of a blob that was registered again."""
         store, blobs = self.node.store, self.node.ledger.blobs
         while over := blobs.over(AT_ONCE):
             store.expire(over, self.node.ledger.epoch)
             if not await store.durable():
-                raise OSError(f"the disk does not take that {len(over)} blobs are over")
+                raise OSError(f"the disk does not take the removal of {len(over)} expired blobs")
             blobs.drop(over)
 
     async def sweep(self) -> None:
-        """Removes what a crash left without a name, and what a shard held that is here no more."""
+        """Remove files that nothing names, as a crash may leave them, and parts of shards that are no longer here."""
         store, words = self.node.store, "SELECT 1 FROM contents WHERE file = ?"
 
         def sweep_files(base: sqlite3.Connection) -> int:
@@ -137,4 +137,4 @@ class Scrub:
         self.figures.swept += await store.asked(sweep_files)
         while store.sweep():
             if not await store.durable():
-                raise OSError("the disk does not take that parts go")
+                raise OSError("the disk does not take the removal of parts")

@@ -1,4 +1,4 @@
-"""What a node, a recorder and a gateway are told at their start."""
+"""The settings with which a node, a recorder and a gateway start."""
 import dataclasses
 import pathlib
 from typing import ClassVar
@@ -9,7 +9,7 @@ from .exposure import Options
 
 @dataclasses.dataclass
 class Settings:
-    """What a node is told at its start, a file with these names; paths are from where that file stands."""
+    """The settings of a node, read from a file with these names; paths are relative to the file."""
 
     role: ClassVar[str] = "node"
     paths: ClassVar[tuple[str, ...]] = ("program", "database", "authority", "certificate", "key")
@@ -22,31 +22,31 @@ class Settings:
     key: str
     host: str = "127.0.0.1"
     port: int = 0
-    announced: str = ""  # where others reach the node; host and port, where it is empty
+    announced: str = ""  # HOST:PORT where others reach the node; if empty, host and port
     connections: int = 512
-    kept: int = 33_554_432  # bytes of requests and replies that are kept for all clients together
-    heal: float = 30.0  # seconds for which a shard may lack a certified blob, before it is recovered from the others
-    memory: int = 256_000_000  # bytes of the whole node, whatever it holds and is asked
-    reserve: float = 0.05  # of the disk, which is kept free
-    scrub: float = 30.0  # days in which all that is held is read and judged once; never, where it is 0
+    kept: int = 33_554_432  # bytes of requests and replies that are kept in memory for all clients together
+    heal: float = 30.0  # seconds for which a shard may lack a certified blob before it is recovered from the others
+    memory: int = 256_000_000  # bytes of memory for the whole node, whatever it holds and is asked
+    reserve: float = 0.05  # fraction of the disk that is kept free
+    scrub: float = 30.0  # days in which everything held is read and judged once; 0 for never
     scrub_rate: int = 20_000_000  # bytes a second that a scrub reads at most
-    metrics: str = ""  # PORT of this machine alone, or HOST:PORT, where Prometheus reads its numbers
-    recorded: bool = False  # keep all that was answered, for network/trace
+    metrics: str = ""  # where Prometheus reads metrics: PORT on loopback alone, or HOST:PORT
+    recorded: bool = False  # keep all requests and replies, for network/trace
 
     @classmethod
     def read(cls, path: pathlib.Path) -> "Settings":
         return settings_of(cls, path)
 
     def reached(self, port: int) -> tuple[str, str]:
-        """The host and the port that the ledger is told of a node that listens at this port: an IPv6 address has no
-        brackets there."""
+        """Return the host and port to post to the ledger if the node listens on `port`; an IPv6 address has no brackets
+        there."""
         host, _, told = (self.announced or f"{self.host}:{port}").rpartition(":")
         return host.strip("[]"), told
 
 
 @dataclasses.dataclass
 class RecorderSettings:
-    """What a recorder is told at its start."""
+    """The settings of a recorder; paths are relative to their file."""
 
     role: ClassVar[str] = "recorder"
     paths: ClassVar[tuple[str, ...]] = (
@@ -66,10 +66,10 @@ class RecorderSettings:
     authority: str
     certificate: str
     key: str
-    state: str  # a file with what it has read, which may be removed while it does not run
+    state: str  # a file with the ledger as it was read; it may be removed while the recorder does not run
     host: str = "127.0.0.1"
     port: int = 0
-    patience: float = 604_800.0  # seconds for which the entries of an epoch that is over wait for nodes that are away
+    patience: float = 604_800.0  # seconds for which entries of past epochs are kept for nodes that are away
 
     @classmethod
     def read(cls, path: pathlib.Path) -> "RecorderSettings":
@@ -78,7 +78,7 @@ class RecorderSettings:
 
 @dataclasses.dataclass(kw_only=True)
 class GatewaySettings(Options):
-    """What a gateway is told at its start, with what it may use; paths are from where that file stands."""
+    """The settings of a gateway, with its limits (`Options`); paths are relative to their file."""
 
     role: ClassVar[str] = "gateway"
     paths: ClassVar[tuple[str, ...]] = (
@@ -93,13 +93,13 @@ class GatewaySettings(Options):
         "tls_key",
         "log",
     )
-    name: str  # under which it posts, the name in its certificate
+    name: str  # the name in its certificate, under which it posts
     program: str
     recorders: list[str]  # HOST:PORT of each recorder of the ledger
     authority: str
     certificate: str
     key: str
-    state: str  # a file with what it has heard of the ledger, which may be removed while it does not run
+    state: str  # a file with the ledger as it was heard; it may be removed while the gateway does not run
     host: str = "127.0.0.1"
     port: int = 31_415
 

@@ -1,4 +1,4 @@
-"""A shard of one epoch: each reply is the judge's, over what the ledger says of a blob and what the disk has of it."""
+"""A shard of one epoch. Each reply is the judge's, given what the ledger says about a blob and the disk has of it."""
 import asyncio
 import contextlib
 import dataclasses
@@ -18,27 +18,27 @@ from .ledger import ACK, ATTEST, Ledger
 from .store import Part, Store
 from .whole import Whole
 
-SMALL = 65_536  # bytes of the longest content that SQLite has
-LAST = 0.2  # of the reserve, which no part takes: else nothing could be noted any more, such as that blobs are over
+SMALL = 65_536  # bytes of the longest content that is kept in SQLite
+LAST = 0.2  # of the reserve, kept from all parts: else a full disk could not note even that blobs have expired
 UNREGISTERED, DECLINED, FULL, NO_MEMORY = 1, 5, 6, 7
 ALL = METADATA, PRIMARY, SECONDARY, PROOF
-WANTING = errno.ENOSPC, errno.EDQUOT, errno.EIO, errno.EROFS  # how a disk does not take what came
+WANTING = errno.ENOSPC, errno.EDQUOT, errno.EIO, errno.EROFS  # faults of a disk that does not take a part
 NAMES = "metadata", "primary sliver", "secondary sliver", "proof"
 Parts = Mapping[int, Data]
-Writing = Optional[asyncio.Task[dict[int, str]]]  # long parts that come to files, and the names that nobody has taken
+Writing = Optional[asyncio.Task[dict[int, str]]]  # writes long parts to files; the files that have no row yet
 
 
 def pages(sizes: Iterable[int]) -> int:
-    """The pages of a disk that parts of so many bytes take, at most."""
+    """Return the number of disk pages of 4 KiB that parts of these sizes take at most."""
     return sum(it // 4096 + 1 for it in sizes)
 
 
 class Past(ConnectionError):
-    """The committee of a shard serves no more."""
+    """The shard's committee no longer serves."""
 
 
 class Judged(NamedTuple):
-    """Requests, what the judge replied to each, and which parts are wrong; when that was, and over how many bytes."""
+    """Requests, the judge's reply to each, and the wrong parts; revision and losses when it was asked; bytes judged."""
 
     requests: Sequence[Data]
     replies: list[list[bytes]]
@@ -49,12 +49,12 @@ class Judged(NamedTuple):
 
 
 def entries_of(ledger: Ledger, epoch: int, identifier: bytes) -> list[bytes]:
-    """What a shard of an epoch is told that the ledger says of a blob; nothing where it is not live in that epoch."""
+    """Return the ledger's entries about a blob for the judge of a shard; empty if it is not live in that epoch."""
     blob = ledger.blobs.get(identifier)
     if blob is None or blob.until <= epoch:
         return []
     found = blob.quorum(ATTEST, ledger.quorum)
-    invalid = min(found[0], epoch) if found else epoch  # declared so in an epoch before, or perhaps in this one
+    invalid = min(found[0], epoch) if found else epoch  # when it was declared invalid, or this epoch
     said: list[frames.Frame] = [client.RegisterEntry(identifier, blob.until - epoch)]
     said += [client.AckEntry(it, identifier) for it in sorted(blob.votes[ACK].get(epoch, ()))]
     said += [frames.AttestEntry(it, identifier) for it in sorted(blob.votes[ATTEST].get(invalid, ()))]
@@ -63,7 +63,7 @@ def entries_of(ledger: Ledger, epoch: int, identifier: bytes) -> list[bytes]:
 
 @dataclasses.dataclass(eq=False)
 class Shard:
-    """A shard of one epoch. `damaged` is told a blob of which a part was found to be wrong."""
+    """A shard of one epoch. `damaged` is called with each blob of which a part is found wrong on the disk."""
 
     number: int
     epoch: int
@@ -79,39 +79,39 @@ class Shard:
         return f"shard {self.number} of epoch {self.epoch}"
 
     def vouches(self, kind: str, identifier: bytes) -> bool:
-        """Whether the shard holds both slivers, for an acknowledgement, or a proof."""
+        """Return whether the shard holds the metadata with both slivers (for ACK) or with a proof (for ATTEST)."""
         needed = {METADATA, PRIMARY, SECONDARY} if kind == ACK else {METADATA, PROOF}
         return needed <= set(self.store.sizes(self.holding, self.epoch, identifier))
 
     def settled(self, identifier: bytes) -> bool:
-        return self.vouches(ACK, identifier) or self.vouches(ATTEST, identifier)
+        return self.vouches(ACK, identifier) or self.vouches(ATTEST, identifier)  # by slivers, or by a proof
 
     def lacks(self, identifier: bytes) -> list[int]:
-        """The parts by which the shard would be settled."""
+        """Return the parts that the shard needs to be settled for a blob; none if it has a proof of bad encoding."""
         sizes = self.store.sizes(self.holding, self.epoch, identifier)
         return [part for part in (METADATA, PRIMARY, SECONDARY) if part not in sizes and PROOF not in sizes]
 
     def wants(self, identifier: bytes) -> bool:
-        """Whether the shard lacks parts of a blob that it may store. Once another committee is written, it takes none
-        but in place of wrong ones."""
+        """Return whether the shard lacks parts of a blob that it may store. Once the next committee takes what is new,
+        it may only replace wrong parts."""
         if self.epoch != self.ledger.writing_epoch and not self.store.wrong(self.holding, identifier):
             return False
         return not self.settled(identifier)
 
     def must_serve(self) -> None:
-        """Raises where its committee is none any more: of what was judged meanwhile nothing is told or kept."""
+        """Raise `Past` if the committee no longer serves: what was judged meanwhile is neither sent nor stored then."""
         if self.epoch not in (self.ledger.epoch, self.ledger.writing_epoch):
             raise Past(f"the committee of {self.title} serves no more")
 
     async def judged(self, identifier: bytes, request: bytes, wanted: Collection[int], wrong: bool = False) -> Judged:
-        """What the judge says to a request over these parts, also those known to be wrong if told so. Who asks has the
-        blob for himself."""
+        """Return the judge's reply to a request given these parts, with those known to be wrong if `wrong`. The caller
+        must hold the blob's lock (`Store.alone`)."""
         told = entries_of(self.ledger, self.epoch, identifier)
         held = self.store.parts(self.holding, self.epoch, identifier, wanted, wrong) if told else []
         return await self.ask([request], sum(it.size for it in held), self.over, request, told, held)
 
     async def ask(self, requests: Sequence[Data], held: int, step: Callable[..., Found], *words: object) -> Judged:
-        """What the judge gives by a step, to these requests over so many bytes."""
+        """Return the result of a step of the judge, for these requests and `held` further bytes of parts."""
         self.must_serve()
         revision, losses, size = self.ledger.revision, self.store.losses, held + sum(map(len, requests))
         found = await self.judges.ask(size, step, *words)
@@ -119,7 +119,7 @@ class Shard:
         return Judged(requests, *found, revision, losses, size)
 
     def over(self, request: bytes, told: list[bytes], held: Sequence[Part]) -> Found:
-        """The judge's reply to a request over these entries and parts, and which parts are not what they should be."""
+        """Return the judge's reply to a request, given entries and parts, and which of the parts are wrong."""
         given, requests = [-1] * len(told), list[Data](told)
         for part in held:
             payload = self.store.files.read(part.file, part.size) if part.file else part.payload
@@ -131,10 +131,10 @@ class Shard:
         replies = judge.judge(self.judges.engine, self.ledger.faults, self.number, requests)
         codes = dict(zip(given, map(code_of, replies)))
         wrong = [it.part for it in held if codes.get(it.part) != client.DONE]
-        return replies[-1:], wrong if METADATA not in wrong else [METADATA]  # without it nothing is known of the others
+        return replies[-1:], wrong if METADATA not in wrong else [METADATA]  # without it the others cannot be judged
 
     async def sure(self, identifier: bytes, request: bytes) -> Judged:
-        """What the judge says over what is held and is what it should be; the rest is left out from here on."""
+        """Return the judge's reply given the sound parts alone: wrong ones are marked, and left out from then on."""
         wanted = {*judge.parts_for(request, client.Shape(self.ledger.faults).shards)}
         while (judged := await self.judged(identifier, request, wanted)).wrong:
             self.mark(identifier, judged.wrong)
@@ -142,7 +142,7 @@ class Shard:
         return judged
 
     def mark(self, identifier: bytes, wrong: Sequence[int]) -> None:
-        """Notes parts that are not what was stored, which are then recovered."""
+        """Mark parts as wrong, which are not what was stored, and have them recovered."""
         words = " and ".join(NAMES[part] for part in wrong)
         print(f"{self.title}: the {words} of {identifier.hex()} went wrong on the disk", file=sys.stderr, flush=True)
         with contextlib.suppress(sqlite3.Error):
@@ -151,20 +151,20 @@ class Shard:
         self.damaged(identifier)
 
     def note(self, judged: Judged) -> list[bytes]:
-        """The last reply; all are noted where the run is recorded."""
+        """Return the last reply. If the run is recorded, stage all requests and replies for the store's history."""
         for request, reply in zip(judged.requests, judged.replies) if self.store.recorded else ():
             said = joined(reply, self.number)
             self.store.note(judged.revision, self.epoch, self.number, bytes(request), said)
         return judged.replies[-1]
 
     async def answer(self, request: bytes) -> list[bytes]:
-        """The reply to a request that changes nothing on the disk."""
+        """Return the reply to a request that stores and deletes nothing."""
         async with self.store.alone(self.holding, request[1:33]):
             return self.note(await self.sure(request[1:33], request))
 
     async def put(self, payload: bytes, mends: bool = False) -> list[bytes]:
-        """Stores a part; it is on the disk with the store's next commit. A proof, and what mends, may take of the
-        disk's reserve, but for the last of it."""
+        """Stage a part for the store's next commit, and return the reply. A proof, or a part that repairs the shard
+        (`mends`), may use the disk's reserve except for the last fifth (`LAST`)."""
         identifier, part = judge.name_of(payload), part_of(payload)
         async with self.store.alone(self.holding, identifier):
             if self.epoch != self.ledger.writing_epoch and part not in self.store.wrong(self.holding, identifier):
@@ -176,12 +176,13 @@ class Shard:
                 return await self.keep(identifier, judged, parts if fits else None, files)
 
     async def put_whole(self, whole: Whole) -> list[bytes]:
-        """Stores all parts of a blob of which nothing is held, long ones beside the judge; its reply to the wish for a
-        word, or to a part that will not do. Empty, where something is held already."""
+        """Stage all parts of a blob of which nothing is held; long ones are written to files while the judge works.
+        Return the reply to the request for an acknowledgement, or to the first part that is not accepted. Return an
+        empty list if the shard has some of the blob already: its parts are then stored one by one."""
         identifier, parts, requests = whole.identifier, dict(zip(ALL, whole.parts)), [*whole.parts, whole.wish]
         async with self.store.alone(self.holding, identifier):
             if self.epoch != self.ledger.writing_epoch:
-                return [answer(DECLINED)]  # the next committee has begun with what was held then
+                return [answer(DECLINED)]  # the next committee began with what was held then
             if self.store.sizes(self.holding, self.epoch, identifier) or self.store.wrong(self.holding, identifier):
                 return []
             told = entries_of(self.ledger, self.epoch, identifier)
@@ -196,9 +197,9 @@ class Shard:
 
     @contextlib.asynccontextmanager
     async def written(self, identifier: bytes, parts: Parts) -> AsyncIterator[Writing]:
-        """Has long parts written to files, beside what else is done. In the end those go that nobody has taken, as soon
-        as all are written: what comes to them is in memory as long. Where they are, nothing else goes on in between:
-        what was kept meanwhile is told before it can be lost."""
+        """Write long parts to files in a thread while the body runs. Leaving waits until all are written, as they are
+        in memory until then, and removes files that got no row. If they are written already, no other task runs in
+        between, so the caller has its reply before what was staged for it can be lost."""
         long = {part: it for part, it in parts.items() if len(it) > SMALL}
 
         async def write() -> dict[int, str]:
@@ -209,23 +210,23 @@ class Shard:
             yield writing
         finally:
             if writing:
-                writing.add_done_callback(self.let_go)  # also if who waits here is told to end a second time
+                writing.add_done_callback(self.let_go)  # runs even if the wait below is cancelled
                 if not writing.done():
                     await asyncio.wait([writing])
 
     def let_go(self, writing: "asyncio.Task[dict[int, str]]") -> None:
-        """Has files removed that nobody has taken."""
+        """Remove files that got no row in the database."""
         if not writing.cancelled() and not writing.exception():
             self.store.abandon(writing.result().values())
 
     def free_pages(self, part: float = 1.0) -> int:
-        """The pages of the disk that are free beside a part of the reserve."""
+        """Return the number of free disk pages beyond `part` of the reserve."""
         disk = shutil.disk_usage(self.store.path.parent)
         return min(max(0, int(disk.free - part * self.reserve * disk.total)) // 4096, 2**32 - 1)
 
     async def keep(self, identifier: bytes, judged: Judged, parts: Optional[Parts], files: Writing) -> list[bytes]:
-        """Stages parts that the judge takes, unless something was lost meanwhile; its last reply, or that the disk does
-        not take what that rests on, such as parts for which it has no room."""
+        """Stage parts that the judge accepted and return its last reply. Return the answer FULL if there is no room for
+        them (`parts` is None), if the disk fails, or if staged data was lost since the judge was asked."""
         try:
             names = await asyncio.shield(files) if files else {}
             self.must_serve()
@@ -238,7 +239,7 @@ class Shard:
                 if self.store.losses == judged.losses:
                     return reply
         except sqlite3.Error:
-            pass  # the store has told it
+            pass  # the store has reported it
         except OSError as fault:
             if fault.errno not in WANTING:
                 raise
@@ -246,7 +247,7 @@ class Shard:
         return [answer(FULL, pages(map(len, judged.requests)), self.free_pages())]
 
     async def forget(self, request: bytes) -> list[bytes]:
-        """Lets the slivers of an invalid blob go."""
+        """Delete the slivers of an invalid blob, if the judge agrees, and return its reply."""
         identifier = request[1:33]
         async with self.store.alone(self.holding, identifier):
             judged = await self.sure(identifier, request)
@@ -256,9 +257,9 @@ class Shard:
             return await self.keep(identifier, judged, {}, None)
 
     async def check(self, identifier: bytes) -> tuple[int, bool]:
-        """Has all that is held of a blob judged; its bytes, and whether all is what it should be."""
+        """Judge all parts held of a blob, also those marked wrong; return their bytes, and whether all are sound."""
         async with self.store.alone(self.holding, identifier):
-            if not entries_of(self.ledger, self.epoch, identifier):  # nothing is judged of what is not live
+            if not entries_of(self.ledger, self.epoch, identifier):  # the judge needs a live blob
                 return 0, not self.store.wrong(self.holding, identifier)
             judged = await self.judged(identifier, client.write_frame(client.Read(identifier)), ALL, True)
             known = self.store.wrong(self.holding, identifier)

@@ -1,4 +1,4 @@
-"""What tokens have stored in an epoch, and may still: kept in SQLite, so that a restart forgets none of it."""
+"""Shares of tokens: what each has stored in an epoch, counted in SQLite so that it survives restarts."""
 import pathlib
 import sqlite3
 from typing import Optional
@@ -8,7 +8,7 @@ from .problems import Problem
 from .tokens import Token
 
 NO_BOUND = 2**62
-KEPT = 1_000  # epochs behind the newest in which uploads that began there still count
+KEPT = 1_000  # epochs before the newest one whose counts are kept, for uploads that began in them
 MADE = """CREATE TABLE IF NOT EXISTS used
 (name TEXT, epoch INTEGER, bytes INTEGER, blobs INTEGER, PRIMARY KEY (name, epoch)) STRICT, WITHOUT ROWID"""
 BEGIN = f"""INSERT OR IGNORE INTO used SELECT ?1, ?2, 0, 0
@@ -18,7 +18,7 @@ WHERE name = ?1 AND epoch = ?2 AND bytes + ?3 <= ?5 AND blobs + ?4 <= ?6"""
 
 
 class Shares:
-    """The shares of tokens. Gateways over one database share them."""
+    """The database of the shares of tokens. Gateways that use one database count together."""
 
     def __init__(self, path: pathlib.Path):
         try:
@@ -31,12 +31,13 @@ class Shares:
         self.base.close()
 
     def used(self, name: str, epoch: int) -> tuple[int, int]:
-        """The bytes and the blobs that count for a name in an epoch."""
+        """Returns the bytes and blobs that are counted for a name in an epoch."""
         row = self.base.execute("SELECT bytes, blobs FROM used WHERE name = ? AND epoch = ?", (name, epoch)).fetchone()
         return (int(row[0]), int(row[1])) if row else (0, 0)
 
     def take(self, token: Token, epoch: int, size: int, blobs: int) -> bool:
-        """Counts so much more, or less, unless that is beyond the token's share."""
+        """Adds `size` bytes and `blobs` (negative to give back) to a token's count, and returns True, unless that would
+        exceed its share. Raises `Problem` (503) if the database fails."""
         bounds = token.bounds if size > 0 or blobs > 0 else {}
         most = [NO_BOUND if (bound := bounds.get(kind)) is None else bound for kind in ("bytes", "blobs")]
         try:
@@ -48,44 +49,45 @@ class Shares:
 
 
 class Charge:
-    """What one upload takes of a share: its bytes as they come, a blob for each piece, and one for their list."""
+    """The charge for one upload: its bytes as they arrive, a blob for each piece, and one for the list of pieces."""
 
     def __init__(self, shares: Optional[Shares], token: Optional[Token], epoch: int):
         self.shares, self.token, self.epoch = shares, token, epoch
-        self.size = self.bytes = self.blobs = 0  # what came; what was taken
+        self.size = self.bytes = self.blobs = 0  # bytes that arrived; bytes and blobs that are counted
 
     def announce(self, size: int) -> None:
-        """Raises where a file of this length is beyond the share, before its bytes come."""
+        """Raises `Problem` if a file of this length would exceed the share, before its bytes arrive."""
         self.set_to(size, count_of(size))
         self.set_to(0, 0)
 
     def add(self, size: int) -> None:
-        """Takes what more bytes of the file cost; raises where that is beyond the share, and then they do not count."""
+        """Charges for further bytes. Raises `Problem` if that would exceed the share; then they are not counted."""
         self.replace(self.size + size)
 
     def replace(self, size: int) -> None:
-        """Takes what so many bytes cost that are stored in place of those that came; raises as `add` does."""
+        """Charges for `size` bytes in place of those that arrived so far; raises as `add` does."""
         self.set_to(size, count_of(size))
         self.size = size
 
     def go_on(self, size: int) -> None:
-        """What came before, and was taken then."""
+        """Continues an upload of which `size` bytes arrived, and were charged, before."""
         self.size, self.bytes, self.blobs = size, size, count_of(size)
 
     def settle_at(self, pieces: int) -> None:
-        """Gives back what is more than so many pieces."""
+        """Gives back what was charged beyond this number of whole pieces."""
         self.set_to(pieces * PIECE, pieces)
 
     def settle(self, is_stored: bool, is_new: bool) -> None:
-        """Gives back what was not stored: all of a file that was there, and of a broken one the piece that it broke."""
-        whole = max(0, self.size - 1) // PIECE  # pieces that may be stored once something follows them
+        """Gives back what was not stored: all for a file that was there before, and the last piece of an upload that
+        broke off."""
+        whole = max(0, self.size - 1) // PIECE  # pieces that may be stored: each only once something follows it
         if not is_stored:
             self.set_to(whole * PIECE, whole)
         elif not is_new:
             self.set_to(0, 0)
 
     def set_to(self, size: int, blobs: int) -> None:
-        """Takes what so many bytes and blobs cost, or gives back what was taken beyond that; raises as `add` does."""
+        """Sets what is counted for this upload to these bytes and blobs; raises as `add` does."""
         if self.shares and self.token and (size, blobs) != (self.bytes, self.blobs):
             if not self.shares.take(self.token, self.epoch, size - self.bytes, blobs - self.blobs):
                 self.refuse()
@@ -97,10 +99,10 @@ class Charge:
         shares = [
             f"{count} of {most} {kind}" for kind, count in zip(bounds, used) if (most := bounds[kind]) is not None
         ]
-        raise Problem(403, f"{name} has used {' and '.join(shares)} of epoch {self.epoch}: this is more than is left")
+        raise Problem(403, f"{name} has used {' and '.join(shares)} of epoch {self.epoch}: this exceeds what is left")
 
 
 def count_of(size: int) -> int:
-    """The blobs of a file of this length: its pieces, and the list of several."""
+    """Returns the number of blobs for a file of this length: its pieces, and a list if there are several."""
     pieces = max(1, -(-size // PIECE))
     return pieces + (pieces > 1)

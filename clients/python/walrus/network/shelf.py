@@ -1,4 +1,4 @@
-"""Manifests that were read and checked, kept for who asks next. What a liar wrote costs its reading once."""
+"""Caches manifests that were read and checked. What turned out to be no manifest is kept too, so it is read once."""
 import asyncio
 import collections
 import concurrent.futures
@@ -15,23 +15,23 @@ from .problems import Problem
 from .reading import Reader
 from .turns import ASKING, Turns
 
-MOST, ROOM, SLIGHT = 128, 67_108_864, 65_536  # manifests that are kept, their bytes, and those that memory holds
-WAITING = 8  # who have one read at once, of which one is
-TOGETHER = 1_024  # blobs or files that are gone through before others have their turn
-MOST_BLOBS = MOST_PIECES + 1  # of what is kept for longer: those of the longest file
+MOST, ROOM, SLIGHT = 128, 67_108_864, 65_536  # most manifests kept; their bytes; bytes of one that memory holds
+WAITING = 8  # clients that wait for a manifest at once; one manifest at a time is read
+TOGETHER = 1_024  # blobs or files that are handled before other tasks run
+MOST_BLOBS = MOST_PIECES + 1  # most that are kept for longer: those of the longest file
 MANY = f"it has more than {MOST_BLOBS:,} blobs: keep parts of it for longer, such as each file of a folder"
 NO_FOLDER = "the blob is no folder: read it under /v1/blobs"
-LISTS = concurrent.futures.ThreadPoolExecutor(5, "lists")  # of folders and of blobs, two of each, and one manifest that
-# is read: these take seconds, in which blobs are encoded by other threads
+LISTS = concurrent.futures.ThreadPoolExecutor(5, "lists")  # two lists of folders, two of blobs, and
+# one manifest that is read: each takes seconds, in which other threads encode blobs
 
 
 class Many(Problem):
-    """A file or folder with more blobs than somebody wants to know."""
+    """A file or folder has more blobs than the caller allows."""
 
 
 @dataclasses.dataclass(frozen=True)
 class Part(File):
-    """A file that lies in another one."""
+    """A file that is a part of another one."""
 
     file: File
     offset: int
@@ -41,15 +41,15 @@ class Part(File):
 
 
 class Shelf:
-    """The manifests of folders by their identifiers."""
+    """The manifests of folders, by identifier."""
 
     def __init__(self, reader: Reader):
         self.reader, self.turn, self.size = reader, asyncio.Semaphore(1), 0
-        self.turns = Turns(WAITING, 1)  # of those for whom one is read
+        self.turns = Turns(WAITING, 1)  # of clients that wait for one to be read
         self.kept: "collections.OrderedDict[bytes, asyncio.Task[Manifest]]" = collections.OrderedDict()
 
     async def manifest(self, name: bytes) -> Manifest:
-        """The manifest of a folder; raises `Problem` where it is none."""
+        """Returns the manifest of a folder; raises `Problem` if it is none, or cannot be read."""
         self.reader.must_stand(name)
         task = self.kept.get(name)
         if not task or not task.done():
@@ -65,9 +65,9 @@ class Shelf:
     def loaded(self, name: bytes, task: "asyncio.Task[Manifest]") -> None:
         fault = None if task.cancelled() else task.exception()
         if task.cancelled() or fault and not (isinstance(fault, Problem) and "manifest" in fault.more):
-            self.kept.pop(name, None)  # it may come another time
+            self.kept.pop(name, None)  # the next attempt may succeed
         self.size += 0 if fault or task.cancelled() else len(task.result().data)
-        for is_none in (True, False):  # what is no manifest takes the place of no manifest
+        for is_none in (True, False):  # what is no manifest never displaces a manifest
             done = [(it, other) for it, other in self.kept.items() if other.done() and not other.cancelled()]
             same = [it for it, other in done if bool(other.exception()) == is_none]
             while len(same) > MOST or self.size > ROOM and not is_none and len(same) > 1:
@@ -76,13 +76,14 @@ class Shelf:
                 self.size -= 0 if is_none else len(dropped.result().data)
 
     async def load(self, name: bytes) -> Manifest:
-        ASKING.set("folders")  # in its own task: others wait for this turn, and not behind all that one asks for
+        # In this task alone: other clients wait for it too, and must not wait behind all that the first one asks for.
+        ASKING.set("folders")
         async with self.turn:
             try:
                 return await self.made(name)
             except Problem as fault:
                 told = Problem(fault.status, str(fault), fault.headers, **fault.more)
-        raise told  # which is kept, and not the calls that it came through: these have all that was read
+        raise told  # a new one is kept, as the other's traceback would keep all that was read
 
     async def made(self, name: bytes) -> Manifest:
         data = await self.read(name)
@@ -94,7 +95,7 @@ class Shelf:
             raise Problem(410, f"the folder's manifest is malformed: {fault}", manifest=False) from None
 
     async def read(self, name: bytes) -> Union[bytes, memoryview]:
-        """The bytes of what may be a manifest, in a file without a name where they are many."""
+        """Returns the bytes of what may be a manifest, as a mapped file without a name if they are many."""
         async with self.reader.blob(name) as blob:
             file = File.of(name, blob)
             if file.length <= PIECE and file.names == name and bytes(blob[: len(MARK)]) != MARK:
@@ -112,7 +113,7 @@ class Shelf:
             return memoryview(mmap.mmap(out.fileno(), file.length, access=mmap.ACCESS_READ))
 
     async def file(self, place: Place) -> File:
-        """The file at a place; raises where it is not as its manifest says."""
+        """Returns the file at a place; raises 410 if it has another length than its manifest says."""
         if not place.length:
             return File(0, b"")
         async with self.reader.blob(place.file) as blob:
@@ -123,8 +124,8 @@ class Shelf:
         return file if place.offset is None else Part(place.length, b"", file, place.offset)
 
     async def consists(self, name: bytes, most: int) -> tuple[int, dict[bytes, None]]:
-        """The bytes of a file, or of all of a folder, and the blobs of which it consists, all of which stand. Raises
-        `Many` where these are more than so many."""
+        """Returns the bytes of a file, or of all of a folder, and the blobs that it consists of. Raises `Problem` if
+        one of these is uncertified or invalid, and `Many` if they are more than `most`."""
         async with self.reader.blob(name) as blob:
             file, front = File.of(name, blob), bytes(blob[: len(MARK)])
         found = dict.fromkeys([name])
@@ -138,7 +139,7 @@ class Shelf:
         try:
             manifest = await self.manifest(name)
         except Problem as fault:
-            if "manifest" in fault.more:  # it begins as one and is none, and so is an ordinary file
+            if "manifest" in fault.more:  # it begins as one but is none: an ordinary file
                 return total, found
             raise
         sizes = dict[bytes, int]()
@@ -159,11 +160,11 @@ class Shelf:
                     file = File.of(other, blob)
                     await self.add_blobs(found, file, most)
                 length = await self.size_of(other, file)
-            total += length  # and not what the manifest says, in which anybody may write less
+            total += length  # not what the manifest says: anybody may write less there
         return total, found
 
     async def size_of(self, name: bytes, file: File) -> int:
-        """The bytes that are kept for a file: the last piece of a list may be longer than the list says."""
+        """Returns the bytes that are kept for a file: its last piece may be longer than its list says."""
         if file.names == name:
             return file.length
         last, before = bytes(file.names[-NAME:]), len(file.names) // NAME - 1
@@ -171,8 +172,8 @@ class Shelf:
         return max(file.length, before * PIECE + (await self.reader.lengths.of_blob(last) or 0))
 
     async def add_blobs(self, found: dict[bytes, None], file: File, most: int) -> None:
-        """Adds the blobs of a file, each once it is known to stand: those that somebody invents take no memory. Of the
-        longest file it takes seconds, in which others have their turn."""
+        """Adds the blobs of a file, each after a check that it is certified: invented identifiers take no memory. This
+        takes seconds for the longest file; other tasks run meanwhile."""
         for number, (piece, _, _, _) in enumerate(file.pieces(0, file.length)):
             if len(piece) == NAME:
                 self.reader.must_stand(piece)
@@ -188,6 +189,6 @@ class Shelf:
 
 
 def must_be_few(found: Sized, most: int) -> None:
-    """Raises where there are more blobs than so many."""
+    """Raises `Many` if there are more than `most` blobs."""
     if len(found) > most:
         raise Many(413, MANY)

@@ -1,4 +1,4 @@
-"""Which blobs are files of several pieces, and which are pieces: so that files are told, and not their pieces."""
+"""Finds out which blobs are lists of pieces, and which are pieces, so that files are shown and not their pieces."""
 import asyncio
 import collections
 import random
@@ -7,24 +7,24 @@ from typing import Any, Iterable
 from .chunks import HEAD, NAME, File
 from .reading import Reader
 
-SORTED, PIECES = 10_000, 200_000  # files and pieces that are known at most
-AT_ONCE = 3  # blobs that are looked at in a row
-TOGETHER = 1_024  # pieces that are noted before others have their turn
+SORTED, PIECES = 10_000, 200_000  # most files and pieces that are remembered
+AT_ONCE = 3  # blobs that one call looks at
+TOGETHER = 1_024  # pieces that are recorded before other tasks run
 
 
 class Sorter:
-    """What is known of blobs. `sizes` has the length of each file and the number of its pieces."""
+    """What is known about blobs. `sizes` has the length of each file and the number of its pieces."""
 
     def __init__(self, reader: Reader):
         self.reader, self.sizes = reader, collections.OrderedDict[bytes, tuple[int, int]]()
-        self.pieces: "collections.OrderedDict[bytes, bytes]" = collections.OrderedDict()  # and the list that names it
+        self.pieces: "collections.OrderedDict[bytes, bytes]" = collections.OrderedDict()  # each with its list
 
     def files(self, blobs: Iterable[bytes]) -> Iterable[bytes]:
-        """Those that are no pieces, as far as is known."""
+        """Returns those blobs that are not known to be pieces."""
         return (it for it in blobs if it not in self.pieces or not self.is_piece(it, self.pieces[it]))
 
     def is_piece(self, identifier: bytes, listed: bytes) -> bool:
-        """Whether a blob that a list names is by the same poster: or anybody's list would hide the files of others."""
+        """Whether a blob has the same poster as a list that names it: else anybody's list could hide others' files."""
         piece, file = map(self.reader.network.ledger.blobs.get, (identifier, listed))
         return bool(piece and file and piece.poster == file.poster)
 
@@ -33,10 +33,10 @@ class Sorter:
         return {"size": size, "pieces": pieces}
 
     async def learn(self, blobs: Iterable[bytes]) -> None:
-        """Looks at some of these that are not known: at the metadata, and at what may be a list."""
+        """Looks at some of these blobs that are not known yet: at the metadata, and at all of what may be a list."""
         reader = self.reader
         unknown = [it for it in blobs if it not in self.sizes and reader.stands(it)]
-        for identifier in random.sample(unknown, min(AT_ONCE, len(unknown))):  # some of which nobody may tell
+        for identifier in random.sample(unknown, min(AT_ONCE, len(unknown))):  # for some, no shard may answer
             length = await reader.lengths.of_blob(identifier)
             if length is None:
                 continue
@@ -47,7 +47,7 @@ class Sorter:
             await self.note(identifier, file)
 
     async def note(self, identifier: bytes, file: File) -> None:
-        """What a blob turned out to be."""
+        """Records what a blob turned out to be."""
         is_list = file.names != identifier
         for place in range(0, min(len(file.names), PIECES * NAME) if is_list else 0, NAME):
             self.pieces[bytes(file.names[place : place + NAME])] = identifier  # noqa: E203

@@ -1,23 +1,23 @@
-"""What comes in a body that has several files: a stream, of which it can be said how much of it is read."""
+"""The body of a request with several files, a tar or a form, as a stream that is read in amounts of any size."""
 from typing import AsyncGenerator, AsyncIterator
 
 from .problems import Problem
 
-HEAD = 4_096  # bytes of the head of a file in a form, and what a form may have beside each file
-MARKS = 32  # semicolons of such a head: the parameters behind them take longer the more there are
-BROKEN = "the tar breaks off, or is none: make it with tar --create, without compression"
+HEAD = 4_096  # the most bytes of a file's head in a form, and of what a form has beside each file
+MARKS = 32  # the most semicolons in such a head: parsing each parameter takes longer the more there are
+BROKEN = "the tar breaks off or is malformed: make it with tar --create, without compression"
 Parts = AsyncIterator[bytes]
 
 
 class Source:
-    """A stream, which aiohttp's reader of forms takes for one of its own."""
+    """A buffered stream with the methods that aiohttp's reader of forms needs (`read`, `readline` and the last two)."""
 
     def __init__(self, stream: Parts):
         self.stream, self.kept, self.is_over = stream, bytearray(), False
-        self.head = self.marks = 0  # bytes and semicolons of the head that is read
+        self.head = self.marks = 0  # bytes and semicolons of the present head so far
 
     async def fill(self) -> bool:
-        """Takes the next part of the stream; whether there was one."""
+        """Buffers the next part of the stream; returns whether there was one."""
         async for part in self.stream:
             self.kept += part
             return True
@@ -30,13 +30,13 @@ class Source:
         return taken
 
     async def exactly(self, size: int) -> bytes:
-        """So many bytes, or fewer where the stream ends."""
+        """Returns `size` bytes, or fewer if the stream ends before."""
         while len(self.kept) < size and await self.fill():
             pass
         return self.take(size)
 
     async def parts(self, size: int) -> AsyncGenerator[bytes, None]:
-        """So many bytes in parts; raises where the stream ends before."""
+        """Yields `size` bytes in parts; raises `Problem` if the stream ends before."""
         while size:
             if not self.kept and not await self.fill():
                 raise Problem(400, BROKEN)
@@ -45,23 +45,23 @@ class Source:
             yield part
 
     async def zeros(self) -> None:
-        """Reads what is left, which must be zeros."""
+        """Reads the rest of the stream; raises `Problem` if it has a byte other than zero."""
         while self.kept or await self.fill():
             if self.take(len(self.kept)).strip(b"\0"):
                 raise Problem(400, "something follows the end of the tar: store one tar at a time")
 
     async def rest(self) -> None:
-        """Reads what is left, whatever it is."""
+        """Reads and discards the rest of the stream."""
         while self.kept or await self.fill():
             self.kept.clear()
 
     async def read(self, size: int) -> bytes:
-        """So many bytes of a file, and no fewer before the end: aiohttp finds no boundary that comes in three parts."""
+        """Returns `size` bytes of a file, fewer only at the end: aiohttp misses a boundary that spans three reads."""
         self.head = self.marks = 0
         return await self.exactly(size)
 
     async def readline(self, **_: int) -> bytes:
-        """A line of the head of a file; raises where the whole of it is too long."""
+        """Returns a line of a file's head; raises `Problem` if the head is too long or has too many semicolons."""
         while not (end := self.kept.find(b"\n") + 1) and len(self.kept) <= HEAD and await self.fill():
             pass
         line = self.take(end or len(self.kept))

@@ -1,4 +1,4 @@
-"""A database in SQLite that has one process, and files beside it that it names."""
+"""An SQLite database with group commit, open in one process at a time, and the files beside it that it names."""
 import asyncio
 import concurrent.futures
 import contextlib
@@ -18,64 +18,64 @@ from .notify import extending
 
 TORN = "the database {} is torn: move it away and start the node without it, and the others fill it "
 TORN += "(network/OPERATING.md)"
-THREADS = 4  # for what takes long on the disk
+THREADS = 4  # for work that may wait long for the disk
 Result = TypeVar("Result")
-Written = asyncio.Future[bool]  # whether what was staged together came to the disk
-SOON, LATER = 0.002, 0.5  # seconds until what waits is committed: what a reply waits for, and what nobody waits for
+Written = asyncio.Future[bool]  # whether one group of staged statements is on the disk
+SOON, LATER = 0.002, 0.5  # seconds until a commit: if a reply waits for it; if nobody does
 
 
 class Staged(Database):
-    """A database. What is staged is committed together, soon, and is on the disk once a thread has synced SQLite's log:
-    so a slow disk holds up nobody else, and what is staged meanwhile shares the next commit and sync. What cannot be
-    committed is lost. Behind a sync that failed nobody knows what the disk has: nothing is said to be there any more,
-    and `fail` is told, which ends the node."""
+    """A database with group commit. Staged statements are committed together soon after, and are on the disk once a
+    thread has synced SQLite's log. So a slow disk delays nothing else, and what is staged meanwhile shares the next
+    commit and sync. What cannot be committed is lost. After a failed sync nobody knows what the disk has: nothing more
+    is reported to be there, and `fail` is called, which ends the node."""
 
-    seconds = 5.0  # in which others wait too
+    seconds = 5.0  # for a lock of SQLite, while the whole event loop waits
 
     def __init__(self, path: pathlib.Path, fail: Callable[[Any], object]):
-        self.path, self.fail, self.losses = path.resolve(), fail, 0  # how often what was staged was lost
-        self.pending: Optional[Written] = None  # of what is staged
-        self.flushed: asyncio.TimerHandle  # when that is committed
-        self.named, self.dropped = list[str](), list[str]()  # files that what is staged names, and no longer names
-        self.committed = list[tuple[Written, list[str]]]()  # what the next sync is for, and the files that go then
-        self.last: Optional[Written] = None  # of what was committed last
+        self.path, self.fail, self.losses = path.resolve(), fail, 0  # how often staged data was lost
+        self.pending: Optional[Written] = None  # for what is staged now
+        self.flushed: asyncio.TimerHandle  # which commits that
+        self.named, self.dropped = list[str](), list[str]()  # files that staged rows name; that lose their row
+        self.committed = list[tuple[Written, list[str]]]()  # to sync next; files to remove then
+        self.last: Optional[Written] = None  # for the last commit
         self.syncing = list[tuple[Written, list[str]]]()  # what is being synced
-        self.syncs = queue.SimpleQueue[Optional[asyncio.AbstractEventLoop]]()  # that are to be made, and who is told
+        self.syncs = queue.SimpleQueue[Optional[asyncio.AbstractEventLoop]]()  # syncs to make: whom to report to
         try:
             super().__init__(str(self.path))
         except BlockingIOError:
             words = "end that one first, or name another database"
             raise OSError(f"another process runs over {self.path}: {words}") from None
         self.bring_in()
-        self.log = self.opened.enter_context(open(f"{self.path}-wal", "rb"))  # by which each fault is told once
-        self.files.sync(self.path.parent)  # which has the log
-        self.pool = concurrent.futures.ThreadPoolExecutor(THREADS, "disk")  # asyncio's own looks names up, perhaps long
-        self.syncer = threading.Thread(target=self.sync, name="sync", daemon=True)  # which costs less than a pool
+        self.log = self.opened.enter_context(open(f"{self.path}-wal", "rb"))  # kept open: it reports each fault once
+        self.files.sync(self.path.parent)  # the folder of the log
+        self.pool = concurrent.futures.ThreadPoolExecutor(THREADS, "disk")  # asyncio's may be busy resolving names
+        self.syncer = threading.Thread(target=self.sync, name="sync", daemon=True)  # cheaper than a pool
         self.syncer.start()
 
     def open_tables(self) -> None:
-        """Finds the folder of files, or makes it; a fault in here closes the database again."""
+        """Set up SQLite's log and the folder of files; any fault here closes the database again."""
         if self.base.execute("PRAGMA journal_mode").fetchone() != ("wal",):
             raise OSError(
-                errno.EINVAL, f"SQLite keeps no log on the disk of {self.path}: have the database on another one"
+                errno.EINVAL, f"SQLite keeps no log on the disk of {self.path}: put the database on another one"
             )
         self.base.execute("PRAGMA synchronous = NORMAL")
         self.base.text_factory = functools.partial(str, encoding="utf-8", errors="replace")
         self.files = Files(self.path.with_suffix(".parts"))
 
     def bring_in(self) -> None:
-        """Brings SQLite's log into the database, once no other process reads that. What the log has may not be on the
-        disk, and behind a sync that failed another one proves nothing, as the system takes its pages for clean. So all
-        of it is written anew, and synced there."""
+        """Checkpoint SQLite's log into the database, and wait until no other process reads the database. The disk may
+        lack parts of the log, and after a sync that failed another one proves nothing, as the system takes the pages
+        for clean then. So all of it is written again to the database, and synced there."""
         said = False
         with extending():
             while self.base.execute("PRAGMA wal_checkpoint(TRUNCATE)").fetchone()[0]:
                 if not said:
-                    print(f"another process reads {self.path}: its end is waited for", file=sys.stderr, flush=True)
+                    print(f"another process reads {self.path}: waiting until it ends", file=sys.stderr, flush=True)
                 said = True
 
     def stage(self, words: str, *values: object) -> sqlite3.Cursor:
-        """Runs a statement in the transaction that is committed next."""
+        """Run a statement in the transaction that is committed next; if it fails, all that is staged is lost."""
         try:
             if self.pending is None:
                 self.base.execute("BEGIN IMMEDIATE")
@@ -88,7 +88,7 @@ class Staged(Database):
             raise
 
     def lose(self, fault: Exception) -> None:
-        """Rolls back what was staged, and tells at once who relied on it."""
+        """Roll back what was staged, and report at once to those who wait for it that it is lost."""
         if type(fault) is sqlite3.DatabaseError:  # pages are torn
             self.fail(fault)
         else:
@@ -101,20 +101,20 @@ class Staged(Database):
             pending.set_result(False)
 
     def settle(self) -> Optional[Written]:
-        """Has nothing staged any more; who waits for what was."""
+        """Forget what was staged, and return its future, or None if nothing was."""
         pending, self.pending, self.named, self.dropped = self.pending, None, [], []
         if pending:
             self.flushed.cancel()
         return pending
 
     def abandon(self, files: Iterable[str]) -> None:
-        """Has files removed that nothing names."""
+        """Remove files that nothing names, in a thread."""
         if found := [*files]:
-            with contextlib.suppress(RuntimeError):  # no thread can be had now: the next one does it, or a sweep
+            with contextlib.suppress(RuntimeError):  # no thread can be started: the next call removes them, or a sweep
                 asyncio.get_running_loop().run_in_executor(self.pool, self.files.remove, found)
 
     def commit(self) -> bool:
-        """Commits what is staged; whether the disk takes it so far."""
+        """Commit what is staged, without a sync; return whether that worked."""
         try:
             if self.pending:
                 self.base.execute("COMMIT")
@@ -129,7 +129,7 @@ class Staged(Database):
         return True
 
     def flush(self) -> bool:
-        """The same, and has it come to the disk."""
+        """Commit what is staged, and start a sync unless one is under way; return whether the commit worked."""
         done = self.commit()
         if self.committed and not self.syncing:
             self.syncing, self.committed = self.committed, []
@@ -137,12 +137,12 @@ class Staged(Database):
         return done
 
     def commit_soon(self) -> None:
-        """Flushes what has waited for long enough; while others are synced it waits for the end of that."""
+        """Flush what has waited long enough. If a sync is under way, `synced` does that at its end."""
         if not self.syncing:
             self.flush()
 
     def sync(self) -> None:
-        """Has the disk keep what is committed, in a thread of its own, for as long as the database is open."""
+        """Sync SQLite's log whenever asked, in a thread, while the database is open. After one fault all syncs fail."""
         fault: Optional[OSError] = None
         while loop := self.syncs.get():
             try:
@@ -154,7 +154,7 @@ class Staged(Database):
             loop.call_soon_threadsafe(self.synced, fault)
 
     def synced(self, fault: Optional[OSError]) -> None:
-        """Says whether the disk keeps what was synced; what was committed or due meanwhile comes next."""
+        """Report a sync to those who wait for it, and flush what was committed or became due meanwhile."""
         some, self.syncing = self.syncing, []
         for written, dropped in some:
             written.set_result(not fault)
@@ -165,7 +165,7 @@ class Staged(Database):
             self.flush()
 
     def written(self) -> Optional[Written]:
-        """Whether what was staged so far comes to the disk, which is tried soon; nothing where nothing was."""
+        """Commit soon; return a future of whether all that was staged is on the disk, or None if nothing was staged."""
         loop = asyncio.get_running_loop()
         if self.pending and self.flushed.when() > loop.time() + SOON:
             self.flushed.cancel()
@@ -173,13 +173,13 @@ class Staged(Database):
         return self.pending or self.last
 
     async def durable(self) -> bool:
-        """Whether all that was staged comes to the disk."""
+        """Wait for the disk, and return whether all that was staged is on it."""
         written = self.written()
         return written is None or await asyncio.shield(written)
 
     async def persist(self, stage: Callable[[], None]) -> None:
-        """Puts on the disk what must be there before the node goes on, however long that takes. Raises where pages are
-        torn, which no later attempt mends."""
+        """Stage what must be on the disk before the node goes on, and retry each second until it is there. Raises if
+        the database is torn, as no retry mends that."""
         while True:
             with contextlib.suppress(sqlite3.OperationalError):
                 stage()
@@ -191,21 +191,21 @@ class Staged(Database):
         return sqlite3.connect(f"file:{self.path}?mode=ro", uri=True)
 
     async def asked(self, ask: Callable[[sqlite3.Connection], Result]) -> Result:
-        """What is asked of the disk in a thread with a reader of its own, as it may take long."""
+        """Return the result of a query that may take long, run in a thread with a read-only connection of its own."""
 
         def read() -> Result:
             with contextlib.closing(self.reader()) as base:
                 return ask(base)
 
-        self.flush()  # so that the thread sees it
+        self.flush()  # so that the thread sees what is staged
         return await asyncio.get_running_loop().run_in_executor(self.pool, read)
 
     def close(self) -> None:
-        self.commit()  # which SQLite syncs as it closes
+        self.commit()  # SQLite syncs it as it closes the database
         waiting, self.committed, self.syncing = self.syncing + self.committed, [], []
         self.syncs.put(None)
         self.syncer.join()
         self.pool.shutdown()
         super().close()
         for written, _ in waiting:
-            written.set_result(False)  # as SQLite does not say whether it could
+            written.set_result(False)  # as SQLite does not report whether that sync worked

@@ -177,10 +177,10 @@ class State(Database):
             await asyncio.sleep(LATER)
 
     async def take_now(self, pieces: Iterable[bytes]) -> None:
-        """Does so once; if it fails, everything is as before. A thread writes the checkpoint to the file, while others
-        read the state as it was committed by another connection, until all of it is there. Without a file, or with a
-        tail, as a node may drop rows meanwhile, it is written on the event loop. After a cancellation the state is
-        still `entering` and can only be closed."""
+        """Does so once; if it fails, everything is as before. A thread writes the checkpoint to the file. Until all is
+        there, others read what was committed before, over a second connection. Without a file, or with a tail, as a
+        node may drop rows meanwhile, it is written on the event loop. After a cancellation the state is still
+        `entering` and can only be closed."""
         self.settle()
         self.entering, fault, base, fresh, chain = True, None, self.base, [*self.fresh], self.chain
         base.execute("ROLLBACK")  # of nothing, or of what a full disk did not take
@@ -194,7 +194,7 @@ class State(Database):
                 await self.aside(lambda: self.replace(pieces))
                 reader.execute("COMMIT")
             else:
-                base.set_progress_handler(alive, STEPS)  # as the event loop, which else does so, stands still meanwhile
+                base.set_progress_handler(alive, STEPS)  # the event loop, which else does so, is blocked
                 self.replace(pieces)
         except Exception as it:  # the disk is full, or these pieces are no checkpoint
             fault = it
@@ -202,7 +202,7 @@ class State(Database):
                 base.execute("ROLLBACK")
         self.fall_back()
         if reader:
-            with contextlib.suppress(sqlite3.Error):  # so that not the next commit must empty SQLite's log
+            with contextlib.suppress(sqlite3.Error):  # if this fails, the next commit empties SQLite's log
                 await self.aside(lambda: base.execute("PRAGMA wal_checkpoint(PASSIVE)").fetchall())
             self.blobs.base = base
             reader.close()

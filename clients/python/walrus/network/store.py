@@ -1,8 +1,8 @@
-"""What a node keeps on its disk: the parts of blobs that its shards said they stored.
+"""What a node keeps on its disk: the parts of blobs that its shards replied they had stored.
 
-SQLite has the names of all parts and the content of small ones; a larger content is a file of its own, which is on the
-disk before its name is. A holding is what a shard holds from committee to committee for as long as its node stays: in
-a handover a row of `sides` says so, and no part is touched."""
+SQLite has the names of all parts and the contents of small ones. A larger content is a file of its own, which is on
+the disk before its name is. A *holding* is all that one shard holds, from committee to committee for as long as its
+node stays: a handover adds a row to `sides` and touches no part."""
 import asyncio
 import contextlib
 import errno
@@ -18,9 +18,9 @@ from ..frames import METADATA, PRIMARY, PROOF, SECONDARY
 from .judge import name_of
 from .staged import Staged
 
-LAST = b"\xff" * 32  # of all identifiers
-VERSION, BATCH = 1, 256  # of the tables; blobs that are dropped at once
-SEEN = "epoch <= ? AND (gone IS NULL OR gone > ?)"  # by a shard of an epoch
+LAST = b"\xff" * 32  # the greatest identifier
+VERSION, BATCH = 1, 256  # of the tables; parts or blobs that are deleted at once
+SEEN = "epoch <= ? AND (gone IS NULL OR gone > ?)"  # what a shard of an epoch holds
 SETTLED = f"max(part = {METADATA}) AND (total(part IN ({PRIMARY}, {SECONDARY})) = 2 OR max(part = {PROOF}))"
 TABLES = """
 CREATE TABLE IF NOT EXISTS holdings (holding INTEGER PRIMARY KEY) STRICT;
@@ -36,7 +36,7 @@ CREATE TABLE IF NOT EXISTS state (name TEXT PRIMARY KEY, value TEXT) STRICT;
 CREATE TABLE IF NOT EXISTS history (place INTEGER PRIMARY KEY AUTOINCREMENT, revision INTEGER, epoch INTEGER,
     shard INTEGER, request BLOB, reply BLOB) STRICT;
 """
-# A database of the version before had a row for a part in each epoch, and all contents in SQLite, where they stay.
+# A database of the previous version had a row for a part in each epoch, and all contents in SQLite, where they stay.
 OLDER = f"""
 BEGIN IMMEDIATE;
 ALTER TABLE frames RENAME TO contents;
@@ -54,7 +54,7 @@ COMMIT;
 
 
 class Part(NamedTuple):
-    """A part of a blob: its content, or the file that has it."""
+    """A part of a blob: its content, or the name of the file that has it."""
 
     part: int
     size: int
@@ -63,9 +63,9 @@ class Part(NamedTuple):
 
 
 class Store(Staged):
-    """The parts of a node."""
+    """The database of a node's parts."""
 
-    checked = "held", "sides", "holdings", "state"  # and not the contents, which are judged whenever they are read
+    checked = "held", "sides", "holdings", "state"  # not the contents: each is judged whenever it is read
 
     def __init__(self, path: pathlib.Path, recorded: bool = False, fail: Callable[[Any], object] = sys.exit):
         super().__init__(path, fail)
@@ -73,7 +73,7 @@ class Store(Staged):
         self.locks: "weakref.WeakValueDictionary[tuple[object, ...], asyncio.Lock]" = weakref.WeakValueDictionary()
 
     def open_tables(self) -> None:
-        """Finds the tables whole and of this version, or makes them."""
+        """Make the tables, or upgrade those of the previous version; raises if they are torn or of a later one."""
         super().open_tables()
         [(version,)] = self.base.execute("PRAGMA user_version")
         if version > VERSION:
@@ -84,22 +84,22 @@ class Store(Staged):
         self.must_be_whole()
 
     def note(self, revision: int, epoch: int, shard: int, request: bytes, reply: bytes) -> None:
-        """Stages what was answered."""
+        """Stage a request and its reply for the history of a recorded run."""
         with contextlib.suppress(sqlite3.Error):
             self.stage("INSERT INTO history VALUES (NULL, ?, ?, ?, ?, ?)", revision, epoch, shard, request, reply)
 
     def alone(self, holding: int, identifier: bytes, to: str = "ask") -> asyncio.Lock:
-        """Who holds this asks of a blob alone, or does what else is named."""
+        """Return the lock under which a blob of a holding is judged, or under which other work, named `to`, is done."""
         return self.locks.setdefault((holding, identifier, to), asyncio.Lock())
 
     def holding(self, epoch: int, shard: int) -> Optional[int]:
-        """What a shard of an epoch holds, by the number under which its parts stand."""
+        """Return the number of the holding of a shard in an epoch, or None if it has none."""
         row = self.base.execute("SELECT holding FROM sides WHERE epoch = ? AND shard = ?", (epoch, shard)).fetchone()
         return int(row[0]) if row else None
 
     def begin(self, epoch: int, shard: int) -> int:
-        """Stages that a shard of an epoch goes on with what the same shard held in the epoch before, if it was here, or
-        holds in the next one, of which the ledger knew no more at a start; what it holds."""
+        """Stage that a shard begins an epoch, and return its holding: that of the same shard in the epoch before, if it
+        was here, or in the epoch after, if the disk was ahead of the ledger at a start; else a new one."""
         if found := self.holding(epoch, shard):
             return found
         holding = self.holding(epoch - 1, shard) or self.holding(epoch + 1, shard)
@@ -108,26 +108,27 @@ class Store(Staged):
         return holding
 
     def parts(self, holding: int, epoch: int, identifier: bytes, wanted: Iterable[int], wrong: int = 0) -> list[Part]:
-        """What a shard of an epoch holds of these parts of a blob; of nothing, where its metadata is lacking."""
+        """Return which of these parts of a blob a shard holds in an epoch; none at all if its metadata is missing."""
         words = f"SELECT part, size, payload, file FROM held JOIN contents USING (content) WHERE {SEEN}"
         words += " AND holding = ? AND identifier = ? AND wrong <= ? ORDER BY part"
         rows = [Part(*row) for row in self.base.execute(words, (epoch, epoch, holding, identifier, wrong))]
         return [it for it in rows if it.part in wanted] if rows and rows[0].part == METADATA else []
 
     def sizes(self, holding: int, epoch: int, identifier: bytes) -> dict[int, int]:
-        """The bytes of the parts that a shard holds of a blob."""
+        """Return the size in bytes of each sound part that a shard holds of a blob."""
         words = f"SELECT part, size FROM held WHERE {SEEN} AND holding = ? AND identifier = ? AND NOT wrong"
         return dict(self.base.execute(words, (epoch, epoch, holding, identifier)).fetchall())
 
     async def settled(self, holding: int, epoch: int, first: bytes = b"", last: bytes = LAST) -> set[bytes]:
-        """The blobs between two that a shard holds, asked for in a thread of its own, as it may take long."""
+        """Return the blobs from `first` to `last` for which a shard is settled: it holds the metadata, and both slivers
+        or a proof. Reads in a thread."""
         words = "SELECT identifier FROM held WHERE holding = ? AND identifier BETWEEN ? AND ?"
         words += f" AND {SEEN} AND NOT wrong GROUP BY identifier HAVING {SETTLED}"
 
         return await self.asked(lambda it: {row[0] for row in it.execute(words, (holding, first, last, epoch, epoch))})
 
     def wrong(self, holding: int, identifier: bytes) -> set[int]:
-        """The parts of a blob that were found to be wrong."""
+        """Return the parts of a blob that are marked wrong."""
         words = "SELECT part FROM held WHERE holding = ? AND identifier = ? AND wrong"
         return {row[0] for row in self.base.execute(words, (holding, identifier))}
 
@@ -141,8 +142,8 @@ class Store(Staged):
         file: Optional[str],
         old: bool = True,
     ) -> None:
-        """Stages a part that a shard said it stored, whose content may be in a file; in place of a wrong one, where
-        there may be such an `old` one."""
+        """Stage a part that the judge accepted; `file`, if any, has its content. If `old`, it may replace a part that
+        is marked wrong, and is then held from the same epoch on."""
         self.named += [file] if file else []
         wrong = "holding = ? AND identifier = ? AND part = ? AND wrong"
         since = self.drop(wrong, holding, identifier, part) if old else []
@@ -152,12 +153,12 @@ class Store(Staged):
         self.stage(words, holding, identifier, part, min(since, default=epoch), len(payload), content)
 
     def mark(self, holding: int, identifier: bytes, part: int, wrong: bool) -> None:
-        """Stages that a part was found to be wrong, or is right again; it stays until another stands in its place."""
+        """Stage that a part was found wrong, or is right after all. A wrong part stays until another replaces it."""
         words = "UPDATE held SET wrong = ? WHERE holding = ? AND identifier = ? AND part = ?"
         self.stage(words, int(wrong), holding, identifier, part)
 
     def forget(self, holding: int, epoch: int, identifier: bytes) -> None:
-        """Stages that a shard lets the slivers of a blob go, which that of the epoch before may still hold."""
+        """Stage that a shard forgets the slivers of a blob; the shard of the epoch before may still hold them."""
         slivers = f"holding = ? AND identifier = ? AND part IN ({PRIMARY}, {SECONDARY})"
         earlier = "epoch < ? AND (SELECT count(*) FROM sides WHERE sides.holding = held.holding) > 1"
         words = f"UPDATE held SET gone = ? WHERE {slivers} AND {earlier} AND (gone IS NULL OR gone > ?)"
@@ -165,7 +166,7 @@ class Store(Staged):
         self.drop(f"{slivers} AND gone IS NULL", holding, identifier)
 
     def drop(self, where: str, *values: object) -> list[int]:
-        """Stages that parts go with their contents; the epochs from which on they were held."""
+        """Stage the deletion of parts and their contents; return the epochs from which on they were held."""
         rows = self.stage(f"DELETE FROM held WHERE {where} RETURNING epoch, content", *values).fetchall()
         for _, content in rows:
             gone = self.stage("DELETE FROM contents WHERE content = ? RETURNING file", content)
@@ -173,18 +174,18 @@ class Store(Staged):
         return [epoch for epoch, _ in rows]
 
     def turn(self, epoch: int) -> None:
-        """Stages that the committees before an epoch hold nothing more; what was theirs alone goes by and by, as it may
-        be a lot: no later committee sees it."""
+        """Stage that committees before an epoch hold nothing more. No later one sees what they alone held, and `sweep`
+        deletes it step by step, as it may be much."""
         self.stage("DELETE FROM sides WHERE epoch < ?", epoch)
 
     def expire(self, expired: Sequence[bytes], before: float = float("inf")) -> None:
-        """Stages that nothing is held any more of some blobs that was held before an epoch."""
+        """Stage the deletion of the parts of expired blobs that have been held since before an epoch."""
         for identifier in expired:
             self.drop("holding IN (SELECT holding FROM sides) AND identifier = ? AND epoch < ?", identifier, before)
 
     def sweep(self) -> bool:
-        """Stages that some parts go that every committee here has let go, or else whose shard is no longer here;
-        whether there are such."""
+        """Stage the deletion of some parts that every committee here has forgotten, or else of some blobs of a shard
+        that is no longer here; return whether there were any."""
         words = "SELECT holding, identifier, part, epoch FROM held WHERE gone <= (SELECT min(epoch) FROM sides) LIMIT ?"
         gone = self.base.execute(words, (BATCH,)).fetchall()
         for it in gone:
@@ -198,7 +199,7 @@ class Store(Staged):
         return bool(gone or row)
 
     def state(self, name: str, value: Optional[str] = None) -> str:
-        """What a name stands for; staged, where it is to stand for something else."""
+        """Return the value of a name, or an empty text; if `value` is given, stage it as the new value."""
         if value is not None:
             self.stage("INSERT OR REPLACE INTO state VALUES (?, ?)", name, value)
             return value
@@ -206,12 +207,12 @@ class Store(Staged):
         return str(row[0]) if row else ""
 
     def next(self, holding: int, identifier: bytes) -> Optional[tuple[int, bytes]]:
-        """The blob of which something is held behind this one."""
+        """Return the holding and identifier of the next blob after this one, or None after the last."""
         words = "SELECT holding, identifier FROM held WHERE (holding, identifier) > (?, ?) ORDER BY 1, 2 LIMIT 1"
         row = self.base.execute(words, (holding, identifier)).fetchone()
         return (row[0], row[1]) if row else None
 
     def counts(self, base: Optional[sqlite3.Connection] = None) -> dict[str, int]:
-        """How many blobs are held and their bytes, and how many parts are known to be wrong; goes over all of them."""
+        """Return how many blobs and bytes are held and how many parts are marked wrong; reads the rows of all parts."""
         words = f"SELECT total(part = {METADATA}), total(size), total(wrong) FROM held"
         return dict(zip(("blobs", "bytes", "wrong"), map(int, (base or self.base).execute(words).fetchone())))

@@ -1,14 +1,14 @@
-"""How long things take: how many took at most so many seconds, by what they are."""
+"""Histograms of durations, by label."""
 import contextlib
 import time
 from typing import Iterator
 
-HEADERS = {"Content-Type": "text/plain; version=0.0.4; charset=utf-8"}  # of numbers for Prometheus
+HEADERS = {"Content-Type": "text/plain; version=0.0.4; charset=utf-8"}  # of metrics for Prometheus
 BOUNDS = 0.001, 0.005, 0.02, 0.1, 0.5, 2.0, 10.0, 60.0
 
 
 class Times:
-    """Counts by label of what took no longer than each of the bounds, or longer; and the seconds of all together."""
+    """For each label, the number of durations per bucket, the last one for what is above all bounds; and their sum."""
 
     def __init__(self) -> None:
         self.counts, self.sums = dict[str, list[int]](), dict[str, float]()
@@ -27,7 +27,7 @@ class Times:
             self.add(label, time.monotonic() - begun)
 
     def buckets(self, label: str) -> list[tuple[str, float]]:
-        """Each bound, and how many took no longer."""
+        """Returns each bound with the number of durations up to it, as Prometheus' buckets are cumulative."""
         counts = self.counts[label]
         ends = [*map(str, BOUNDS), "+Inf"]
         return [(end, float(sum(counts[: place + 1]))) for place, end in enumerate(ends)]

@@ -1,4 +1,4 @@
-"""Tokens of a gateway: whoever shows one may read or store, and so much. The file has their SHA-256 alone."""
+"""Tokens of a gateway: each has rights, to read or to store, and bounds. The file has only their SHA-256."""
 import argparse
 import dataclasses
 import hashlib
@@ -13,22 +13,22 @@ from .checked import readable, written_whole
 from .entries import NAME
 
 RIGHTS = READ, STORE = "read", "store"
-ANYONE = "anyone"  # the name of whoever shows no token
+ANYONE = "anyone"  # the name that stands for clients without a token
 BOUNDS = "bytes", "blobs", "epochs"
-TEXT = f"make a token, in place of an older one of the name; the name {ANYONE} is whoever shows none"
+TEXT = f"make a token, in place of an older one of this name; the name {ANYONE} stands for clients without a token"
 WORDS = {
-    "folder": ("walrus-network", "the network's, whose tokens.json it changes"),
-    "tokens": ("", "another file"),
-    "rights": (",".join(RIGHTS), "with commas between, or none"),
+    "folder": ("walrus-network", "the network's folder, in which tokens.json is changed"),
+    "tokens": ("", "another file of tokens"),
+    "rights": (",".join(RIGHTS), "rights, separated by commas, or none"),
     "remove": (False, "remove the token"),
 }
-MEANT = "that it may store in an epoch", "that it may store in an epoch, of which a long file has several"
+MEANT = "bytes that it may store in an epoch", "blobs that it may store in an epoch; a long file has several"
 
 
 @dataclasses.dataclass(frozen=True)
 class Token:
-    """Who shows a token. Its bounds are bytes and blobs in an epoch of the network, and epochs of a file; None is
-    without one."""
+    """A token, by its SHA-256. Its bounds are bytes and blobs that may be stored in an epoch, and epochs for which a
+    file may be kept; None is no bound."""
 
     name: str
     digest: bytes
@@ -37,7 +37,7 @@ class Token:
 
     @classmethod
     def of(cls, name: str, told: Any) -> "Token":
-        """A token as the file has it; raises `ValueError`."""
+        """Returns the token that an entry of the file describes; raises `ValueError` if it is malformed."""
         unknown = {*told} - {"sha256", "rights", *BOUNDS} if isinstance(told, dict) else {"no object"}
         if unknown or not NAME.fullmatch(name):
             raise ValueError(f"{name[:64]!r}: {' '.join(sorted(unknown)) or 'a name has letters, digits, . _ and -'}")
@@ -45,24 +45,24 @@ class Token:
         bounds = {it: told.get(it) for it in BOUNDS}
         fit = isinstance(rights, list) and {*rights} <= {*RIGHTS} and len(digest) == 32 * (name != ANYONE)
         if not fit or not all(it is None or type(it) is int and it >= 0 for it in bounds.values()):
-            raise ValueError(f"{name}: it has rights of {' and '.join(RIGHTS)}, a SHA-256, and bounds that are numbers")
+            raise ValueError(f"{name}: it needs rights of {' and '.join(RIGHTS)}, a SHA-256, and numbers as bounds")
         return cls(name, digest, frozenset(rights), bounds)
 
 
 def read_tokens(path: pathlib.Path) -> dict[str, Token]:
-    """The tokens of a file; raises `OSError` or `ValueError`."""
+    """Returns the tokens of a file by name; raises `OSError`, or `ValueError` if it is malformed."""
     try:
         told = json.loads(path.read_text())
         if not isinstance(told, dict):
-            raise ValueError("it is no object")
+            raise ValueError("it is not a JSON object")
         return {name: Token.of(name, it) for name, it in told.items()}
     except (ValueError, TypeError, AttributeError, RecursionError) as fault:
         raise ValueError(f"{path} has no tokens that can be read: {fault}") from None
 
 
 class Tokens:
-    """The tokens of a file, which is read again when it changes. What was read stays where it cannot be read later, or
-    is gone: a gateway that has tokens does not open itself."""
+    """The tokens of a file, which is read again when it changes. If it is later lost or malformed, the earlier tokens
+    remain valid: a gateway with tokens must not become open to all."""
 
     def __init__(self, path: pathlib.Path):
         self.path, self.known, self.state = path, None, ()  # type: pathlib.Path, Optional[dict[str, Token]], object
@@ -70,7 +70,7 @@ class Tokens:
             self.known, self.state = read_tokens(path), self.look()
 
     def look(self) -> object:
-        """What changes when the file does."""
+        """Returns a value that changes whenever the file does."""
         try:
             found = self.path.stat()
         except OSError as fault:
@@ -78,18 +78,18 @@ class Tokens:
         return found.st_mtime_ns, found.st_size, found.st_ino
 
     def all(self) -> Optional[dict[str, Token]]:
-        """The tokens by name; None where there is no file."""
+        """Returns the tokens by name, or None if there has been no file."""
         if (state := self.look()) != self.state:
             self.state = state
             try:
                 self.known = read_tokens(self.path)
             except (OSError, ValueError) as fault:
-                print(f"{fault}: the tokens from before stay", file=sys.stderr, flush=True)
+                print(f"{fault}: the earlier tokens remain valid", file=sys.stderr, flush=True)
                 self.known = self.known or {}
         return self.known
 
     def find(self, shown: bytes) -> Optional[Token]:
-        """The token that is shown; how long that takes does not tell how near it is to another."""
+        """Returns the token with this text, or None; digests are compared in constant time."""
         digest, found = hashlib.sha256(shown).digest(), None
         for token in (self.all() or {}).values():
             if token.name != ANYONE and hmac.compare_digest(token.digest, digest):
@@ -98,9 +98,8 @@ class Tokens:
 
 
 def change_token(path: pathlib.Path, name: str, told: Optional[dict[str, Any]]) -> str:
-    """Makes a token of a name in a file, in place of an older one, or removes it; the token, which nothing else has.
-
-    A fresh file lets anyone read, as before there was one."""
+    """Makes a token of a name in a file, in place of an older one, or removes it if `told` is None. Returns the text of
+    the token, which is stored nowhere. A new file lets anyone read, as without a file."""
     known: dict[str, Any] = json.loads(path.read_text()) if path.exists() else {ANYONE: {"rights": [READ]}}
     made = secrets.token_urlsafe(32) if told is not None and name != ANYONE else ""
     if told is None and known.pop(name, None) is None:
@@ -114,26 +113,26 @@ def change_token(path: pathlib.Path, name: str, told: Optional[dict[str, Any]]) 
 
 
 def add_words(parser: argparse.ArgumentParser) -> None:
-    for name, text in zip(BOUNDS, (*MEANT, "for which it may store a file")):
+    for name, text in zip(BOUNDS, (*MEANT, "epochs for which it may keep a file")):
         parser.add_argument(f"--{name}", type=int, metavar="N", help=f"{text}; without it, any number")
 
 
 def run(words: argparse.Namespace) -> None:
-    """Makes a token, or removes one, as a command says; a token is told once."""
+    """Makes or removes a token as the command line says, and prints a new one; it is shown only this once."""
     path = pathlib.Path(words.tokens or pathlib.Path(words.folder, "tokens.json"))
     bounds = {it: getattr(words, it) for it in BOUNDS if getattr(words, it) is not None}
-    with readable():  # it has digests alone
+    with readable():  # the file has only digests, so others may read it
         made = change_token(path, words.name, None if words.remove else {"rights": rights_of(words.rights), **bounds})
     if words.json:
         print(json.dumps({"name": words.name, "token": made or None, "removed": words.remove}))
     elif made:
         print(made)
-        print(f"this is the token of {words.name}, which stands nowhere else: {path} has its SHA-256", file=sys.stderr)
+        print(f"this is the token of {words.name}; keep it, as {path} has only its SHA-256", file=sys.stderr)
 
 
 def rights_of(text: str) -> list[str]:
-    """The rights that words name, with commas between; raises `ValueError`."""
+    """Returns the rights in a text with commas between them; raises `ValueError` for others."""
     rights: Iterable[str] = dict.fromkeys(it for it in text.split(",") if it not in ("", "none"))
     if not {*rights} <= {*RIGHTS}:
-        raise ValueError(f"a right is {' or '.join(RIGHTS)}, or none of them")
+        raise ValueError(f"rights are {' or '.join(RIGHTS)}, or none")
     return [*rights]

@@ -1,5 +1,5 @@
-"""Files to and from a gateway, which is not believed: what they are named is computed here, by the program walrus or
-its library."""
+"""Sends files to a gateway, and fetches them. The gateway is not trusted: identifiers are computed here, by the program
+walrus or its library."""
 import asyncio
 import contextlib
 import os
@@ -17,16 +17,16 @@ from .local import find_program
 from .manifest import clean
 
 PART, TRIES = 1_048_576, 5
-PATIENCE = 180  # seconds in which a gateway takes a part of what is sent, or answers
+PATIENCE = 180  # seconds for a gateway to read a part of what is sent, or to answer
 BY_STATUS = {404: 4, 410: 3, 503: 4}
 
 
 class Failure(Exception):
-    """What could not be done, in a sentence, and the exit status."""
+    """A command that failed: why, in a sentence, and the exit status."""
 
 
 class Bar(contextlib.AbstractContextManager["Bar"]):
-    """A line on a terminal that says how far something is, once it takes longer than a second."""
+    """A line on a terminal that shows the progress of what takes longer than a second."""
 
     def __init__(self, name: str, size: int = 0):
         self.name, self.size, self.done = name, size, 0
@@ -46,7 +46,7 @@ class Bar(contextlib.AbstractContextManager["Bar"]):
 
 
 async def check(response: aiohttp.ClientResponse) -> None:
-    """Raises what a gateway says where it refuses."""
+    """Raises `Failure` with what a gateway says if it refuses."""
     if response.status not in (200, 201, 206):
         try:
             text = clean(str((await response.json(content_type=None))["error"]["text"]))
@@ -56,7 +56,7 @@ async def check(response: aiohttp.ClientResponse) -> None:
 
 
 async def listed(session: aiohttp.ClientSession, within: int) -> AsyncIterator[dict[str, Any]]:
-    """What a gateway tells of blobs that end in so many epochs, in the order of their identifiers."""
+    """Yields a gateway's JSON of each blob that ends within some epochs, in the order of their identifiers."""
     after = ""
     while after is not None:
         told = await ask(session, "GET", "/v1/blobs", params={"within": within, "after": after})
@@ -69,8 +69,8 @@ async def listed(session: aiohttp.ClientSession, within: int) -> AsyncIterator[d
 async def sending(
     session: aiohttp.ClientSession, method: str, path: str, parts: AsyncIterator[bytes], **words: Any
 ) -> AsyncIterator[aiohttp.ClientResponse]:
-    """The answer to a request whose body comes in parts, each of which has its own time. What aiohttp has for an answer
-    may begin before the body does, and so would be the time for all of it."""
+    """Yields the response to a request whose body is sent in parts. Each part has a deadline of its own: aiohttp may
+    begin the timeout for a response before the body is sent, which would limit all of it."""
 
     async def timed() -> AsyncIterator[bytes]:
         async for part in parts:
@@ -83,25 +83,25 @@ async def sending(
         async with asyncio.timeout(PATIENCE) as limit, session.request(method, path, data=timed(), **words) as response:
             yield response
     except TimeoutError as fault:
-        raise TimeoutError(str(fault) or f"nothing was taken, or answered, for {PATIENCE} s") from fault
+        raise TimeoutError(str(fault) or f"the gateway took nothing, and did not answer, for {PATIENCE} s") from fault
 
 
 async def put(session: aiohttp.ClientSession, parts: AsyncIterator[bytes], epochs: int) -> Any:
-    """What a gateway tells of a file that comes in parts."""
+    """Stores a file that is sent in parts, and returns the gateway's answer."""
     async with sending(session, "PUT", "/v1/blobs", parts, params={"epochs": epochs}) as response:
         await check(response)
         return await response.json()
 
 
 async def ask(session: aiohttp.ClientSession, method: str, path: str, **words: Any) -> Any:
-    """The JSON of a gateway's answer."""
+    """Returns the JSON of a gateway's answer; raises `Failure` if it refuses."""
     async with session.request(method, path, **words) as response:
         await check(response)
         return await response.json()
 
 
 def find_walrus() -> client.Walrus:
-    """What computes identifiers: the program, or else the library."""
+    """Returns what computes identifiers: the program, or else the library. Raises `Failure` if neither is here."""
     program = find_program()
     if not library.is_library(program) and os.access(program, os.X_OK):
         return client.Walrus(program)
@@ -113,7 +113,7 @@ def find_walrus() -> client.Walrus:
 
 
 async def naming_of(session: aiohttp.ClientSession) -> Naming:
-    """What computes identifiers for a gateway's network; where it tells a false f, identifiers differ."""
+    """Returns what computes identifiers for a gateway's network. If it gives a false f, identifiers differ."""
     walrus = find_walrus()
     faults = (await ask(session, "GET", "/v1/status"))["faults"]
     if not isinstance(faults, int) or not 1 <= faults <= client.MOST_FAULTS:
@@ -122,13 +122,13 @@ async def naming_of(session: aiohttp.ClientSession) -> Naming:
 
 
 def must_name(told: Any, names: list[bytes], what: str) -> None:
-    """Raises where a gateway names what was stored otherwise than the program walrus does."""
+    """Raises `Failure` if a gateway's identifier for what was stored is none of those computed here."""
     if told["blobId"] not in [it.hex() for it in names]:
         raise Failure(f"the gateway names it {told['blobId']}, but {what} is {names[0].hex()}: this gateway lies", 1)
 
 
 async def store(session: aiohttp.ClientSession, path: str, epochs: int) -> Any:
-    """Stores a file, or what standard input has."""
+    """Stores a file, or standard input if the path is `-`."""
     name, naming = os.path.basename(path), await naming_of(session)
     with open(0 if path == "-" else path, "rb") as file, Bar(name, os.fstat(file.fileno()).st_size) as bar:
 
@@ -158,7 +158,7 @@ async def store_bundle(session: aiohttp.ClientSession, paths: list[str], epochs:
 
 
 def parts_of(name: str) -> tuple[str, str]:
-    """The identifier that a name has, and the number of a member, in a bundle."""
+    """Splits a name into its identifier and the number of a bundle's member, which is empty if it has none."""
     if not re.fullmatch("[0-9a-fA-F]{64}(/(0|[1-9][0-9]{0,3}))?", name):
         raise Failure("a name is 64 hexadecimal digits, in a bundle with / and a number behind them", 2)
     blob, _, number = name.partition("/")
@@ -166,8 +166,8 @@ def parts_of(name: str) -> tuple[str, str]:
 
 
 async def fetch(session: aiohttp.ClientSession, name: str, out: IO[bytes]) -> int:
-    """Writes the file that a name is of, or the member of a bundle, once it is computed that it is; its length. What
-    came before is in `out`, and named again; if that is not how the file begins, all of it comes again."""
+    """Writes the file of a name, or a member of a bundle, to `out`, checks its identifier, and returns its length. What
+    `out` has from before counts as its beginning; if the identifier then differs, all of it is fetched once more."""
     (blob, number), naming, size = parts_of(name), await naming_of(session), 0
     while True:
         while part := out.read(PART):
@@ -205,17 +205,18 @@ async def receive(
     shared: Optional[Bar] = None,
     done: int = 0,
 ) -> int:
-    """Writes what a gateway gives for a name, behind what is done, and goes on where a connection broke; its length."""
+    """Writes what a gateway gives for a name from byte `done` on, and goes on after a broken connection. Returns the
+    length of the whole file."""
     tries = 0
     with contextlib.nullcontext(shared) if shared else Bar(name[:16]) as bar:
         bar.add(done)
         while True:
             try:
                 async with session.get(f"/v1/blobs/{name}", headers={"Range": f"bytes={done}-"} if done else {}) as it:
-                    if it.status == 416 and done:  # nothing follows; whether this is all of it, its identifier tells
+                    if it.status == 416 and done:  # nothing follows; the identifier shows whether this is all of it
                         return done
                     await check(it)
-                    again = done if it.status == 200 else 0  # bytes that come once more where ranges are not heard
+                    again = done if it.status == 200 else 0  # bytes that come once more if the range is ignored
                     bar.size = bar.size if shared else done - again + (it.content_length or 0)
                     async for part in it.content.iter_any():
                         part, again = part[again:], max(0, again - len(part))
@@ -226,5 +227,5 @@ async def receive(
             except (aiohttp.ClientPayloadError, aiohttp.ServerDisconnectedError) as fault:
                 tries += 1
                 if tries == TRIES:
-                    raise Failure(f"it broke off {TRIES} times, at byte {done} at last: try again later", 4) from fault
+                    raise Failure(f"the connection broke {TRIES} times, last at byte {done}: try later", 4) from fault
                 await asyncio.sleep(tries)

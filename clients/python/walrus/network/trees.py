@@ -1,4 +1,4 @@
-"""Folders of this machine to a gateway, which is not believed: all that is stored is named here, too."""
+"""Sends folders of this machine to a gateway, which is not trusted: identifiers are computed here as well."""
 import functools
 import hashlib
 import os
@@ -14,13 +14,14 @@ from .manifest import Wrong, as_path, label_of, shown
 from .packing import SMALL, Folder
 from .transfers import PART, Bar, Failure, ask, must_name, naming_of, put
 
-WIDTH = 4  # parts of a folder that are on their way at once
+WIDTH = 4  # parts of a folder that are sent or fetched at once
 Work = Callable[[], Awaitable[None]]
 KINDS = {stat.S_IFLNK: "a link", stat.S_IFSOCK: "a socket", stat.S_IFIFO: "a pipe"}
 
 
 async def several(works: Iterable[Work]) -> None:
-    """Does some of these at once, until all are done or one fails; what is under way then is still done."""
+    """Runs these, `WIDTH` at once, until all are done or one fails. What is under way then is completed, before the
+    first fault is raised."""
     left, faults = iter(works), list[Exception]()
 
     async def go_on() -> None:
@@ -38,7 +39,7 @@ async def several(works: Iterable[Work]) -> None:
 
 
 def files_below(top: bytes, front: bytes = b"") -> Iterator[tuple[str, bytes]]:
-    """The files of a folder: the path of each in it, and where it is; raises `Failure` at what no folder has."""
+    """Yields the path of each file in a folder, and where it is; raises `Failure` for what no folder may have."""
     with os.scandir(os.path.join(top, front)) as found:
         entries = sorted(found, key=lambda it: it.name)
     for entry in entries:
@@ -52,11 +53,11 @@ def files_below(top: bytes, front: bytes = b"") -> Iterator[tuple[str, bytes]]:
                 raise Failure(f"{fault}; nothing is stored", 1) from None
         else:
             text = KINDS.get(kind, "a device")
-            raise Failure(f"{shown(name)} is {text}, and a folder has files alone; nothing is stored", 1)
+            raise Failure(f"{shown(name)} is {text}, and a folder has only files; nothing is stored", 1)
 
 
 class Sending:
-    """A folder that is stored: what the gateway's network lacks of it is sent."""
+    """Stores a folder: sends those parts that the gateway's network lacks."""
 
     def __init__(self, session: aiohttp.ClientSession, naming: Naming, epochs: int, until: int, bar: Bar):
         self.session, self.epochs, self.until, self.bar = session, epochs, until, bar
@@ -64,7 +65,8 @@ class Sending:
         self.end = LAST_UNTIL  # the first epoch in which a part of it is not kept
 
     async def send(self, parts: Callable[[], Iterator[bytes]], what: str, always: bool = False) -> tuple[bytes, Any]:
-        """Sends a file that is not there for so long; its identifier, and what the gateway tells if it was sent."""
+        """Sends a file, unless it is kept for long enough already. Returns its identifier, and the gateway's answer if
+        it was sent. Raises `Failure` if the gateway names it otherwise."""
         naming = Naming(self.walrus, self.faults)
         for part in parts():
             await naming.add(part)
@@ -85,7 +87,7 @@ class Sending:
         return names[0], told
 
     async def is_kept(self, name: bytes) -> bool:
-        """Whether a blob is certified, and kept for so long; not where the gateway does not tell."""
+        """Whether a blob is certified, and kept for long enough; False if the gateway does not tell."""
         try:
             told = await ask(self.session, "GET", f"/v1/status/{name.hex()}")
         except Failure:
@@ -95,7 +97,7 @@ class Sending:
         return is_kept
 
     def look(self, top: bytes) -> list[tuple[str, bytes]]:
-        """Checks the names of all files, and reads the small ones; the large ones."""
+        """Checks the names of all files, and reads the small ones. Returns the path and place of the large ones."""
         large = list[tuple[str, bytes]]()
         for path, place in [*files_below(top)]:
             try:
@@ -144,13 +146,13 @@ class Sending:
         name, told = await self.send(lambda: iter([lines]), "the folder", always=True)
         found = {"files": self.folder.count, "bytes": self.folder.bytes, "sent": self.sent, "label": label_of(name)}
         for it in (told.get("alreadyCertified"), told.get("newlyCreated", {}).get("blobObject", {}).get("storage")):
-            if isinstance(it, dict):  # as gateways of Walrus tell it
+            if isinstance(it, dict):  # in the form of Walrus' gateways
                 it["endEpoch"] = self.end
         return {**told, "endEpoch": self.end, "folder": found}
 
 
 async def store_folder(session: aiohttp.ClientSession, path: str, epochs: int) -> Any:
-    """Stores a folder, whose manifest comes last."""
+    """Stores a folder, its manifest last. Returns the gateway's answer, with the figures of the folder."""
     naming, status = await naming_of(session), await ask(session, "GET", "/v1/status")
     with Bar(os.path.basename(os.path.abspath(path))) as bar:
         sending = Sending(session, naming, epochs, status["epoch"] + bool(status["moving"]) + epochs, bar)

@@ -1,4 +1,4 @@
-"""Places for what takes long: so many at once, of which one who asks has a part, so that nobody has them all."""
+"""Fair semaphores for long tasks: a bounded number of places, and one client has only a part of them."""
 import asyncio
 import collections
 import contextlib
@@ -11,14 +11,14 @@ from aiohttp import web
 
 from ..fairness import Fair, key_of
 
-WAITING = 60.0  # seconds for which one waits for a turn
-MOST = 1_000  # requests of one who asks that wait: more than there are connections, as who is gone waits still
-PARTS = 4  # one who asks has at most one of so many parts of the places, unless it is said otherwise
-ASKING = contextvars.ContextVar("asking", default="")  # for whom something is done; empty where nobody has asked for it
+WAITING = 60.0  # seconds to wait for a place before `TimeoutError`
+MOST = 1_000  # the most waiting requests of one client: above its connections, as those of clients that are gone count
+PARTS = 4  # one client has at most one of PARTS equal parts of the places, unless `each` says otherwise
+ASKING = contextvars.ContextVar("asking", default="")  # the client (`owner_of`) for whom a task runs; empty for none
 
 
 class Turns:
-    """So many places, and of these so many for one. Those who wait for one have it in turn."""
+    """`most` places, of which one owner has at most `each`. Owners that wait get them in turn."""
 
     def __init__(self, most: int, each: int = 0):
         self.all, self.each = Fair(most), each or max(1, most // PARTS)
@@ -26,8 +26,8 @@ class Turns:
 
     @contextlib.asynccontextmanager
     async def take(self, owner: str) -> AsyncIterator[None]:
-        """Has a place while it runs; raises `TimeoutError` where none becomes free for long, or too many wait."""
-        own = self.own.setdefault(owner, Fair(self.each))  # stays while somebody has it
+        """Holds a place while the context runs. Raises `TimeoutError` if none is free in time, or too many wait."""
+        own = self.own.setdefault(owner, Fair(self.each))  # dropped with the last reference to it
         if len(own.waiting.get(owner, ())) >= MOST:
             raise TimeoutError
         async with contextlib.AsyncExitStack() as stack:
@@ -37,14 +37,14 @@ class Turns:
             yield
 
     def left(self, owner: str) -> int:
-        """How many further places one may have, as soon as there are any."""
+        """Returns the number of further places that an owner may have, whether they are free now or not."""
         own = self.own.get(owner)
         return own.free if own else self.each
 
 
 @dataclasses.dataclass
 class Group:
-    """Those of one owner who want the same, and the place that they have together."""
+    """The tasks of one owner that use the same thing, and the place that they share."""
 
     users: int = 0
     place: Optional[contextlib.AsyncExitStack] = None
@@ -52,8 +52,8 @@ class Group:
 
 
 class Together:
-    """Places of which those of one owner who want the same have one together. What is small needs no place, as long as
-    one owner has at most `few` of that at once: so nobody is held up who takes it at once, and it costs little."""
+    """Places of which the tasks of one owner that use the same thing share one. Small things need no place, up to `few`
+    of one owner at once: they cost little, and a client that takes them promptly is not held up."""
 
     def __init__(self, turns: Turns, few: int = 0):
         self.turns, self.groups = turns, dict[tuple[str, bytes], Group]()
@@ -61,8 +61,8 @@ class Together:
 
     @contextlib.asynccontextmanager
     async def take(self, owner: str, name: bytes, is_small: bool = False) -> AsyncIterator[None]:
-        """Has a part in a place while it runs; raises `TimeoutError` where none becomes free for long, or too many have
-        one."""
+        """Has a part in a place while the context runs. Raises `TimeoutError` if none is free in time, or if too many
+        tasks use the same."""
         if is_small and self.small[owner] < self.few:
             self.small[owner] += 1
             try:
@@ -92,7 +92,7 @@ class Together:
 
 
 def owner_of(request: web.Request) -> str:
-    """Who asks: a token, or an address that shows none."""
+    """Returns the key of the client: its token, or its address if it shows none."""
     token = request["token"]
     shown = token and "Authorization" in request.headers
     return f"token {token.name}" if shown else f"address {key_of(request['address'])}"

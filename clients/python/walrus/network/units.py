@@ -1,11 +1,11 @@
-"""What the unit of a service cannot read, write or take, told to root, who would not notice, as root may do all."""
+"""Warnings to root of what the unit of a service cannot read, write or use: root may do all, and would not notice."""
 import os
 import pathlib
 import re
 import subprocess
 from typing import Any, Mapping, Optional
 
-ETC = pathlib.Path("/etc/walrus")  # whose settings the units run
+ETC = pathlib.Path("/etc/walrus")  # the folder of the settings with which units run
 READ = ["authority", "certificate", "key", "etcd_authority", "etcd_certificate", "etcd_key"]
 READ += ["tls_certificate", "tls_key", "tokens", "program"]
 WRITTEN = ["database", "state", "used", "log"]
@@ -14,7 +14,7 @@ PAGE = "network/OPERATING.md, Units"
 
 
 def systemctl(*words: str) -> str:
-    """What systemd says; nothing where it does not run."""
+    """Return the output of systemctl; empty if systemd does not run."""
     try:
         return subprocess.run(["systemctl", *words], capture_output=True, text=True, timeout=10).stdout
     except (OSError, subprocess.TimeoutExpired):
@@ -22,7 +22,7 @@ def systemctl(*words: str) -> str:
 
 
 def warnings(path: pathlib.Path, role: str, told: Mapping[str, Any]) -> list[str]:
-    """What the unit that runs a file of settings cannot do of what they need; nothing where there is no such unit."""
+    """Return what settings in a file need and the unit that runs them cannot do; nothing if there is no such unit."""
     if os.geteuid() or path.resolve().parent != ETC:
         return []
     unit = f"walrus-{role}.service" if role == "recorder" else f"walrus-{role}@{path.stem}.service"
@@ -32,7 +32,7 @@ def warnings(path: pathlib.Path, role: str, told: Mapping[str, Any]) -> list[str
         return []
     found = re.findall(r"^LoadCredential=([^:\n]+)", systemctl("cat", unit), re.MULTILINE)
     given = {it.replace("%i", path.stem) for it in found}
-    if role == "gateway":  # it may leave out where these are
+    if role == "gateway":  # its settings may leave these out
         tokens = told.get("tokens") or pathlib.Path(told["authority"]).with_name("tokens.json")
         told = {**told, "tokens": tokens, "used": told.get("used") or pathlib.Path(tokens).with_suffix(".used")}
     read = {path: 4} | {pathlib.Path(told[it]): 1 if it == "program" else 4 for it in READ if told.get(it)}
@@ -57,11 +57,11 @@ def warnings(path: pathlib.Path, role: str, told: Mapping[str, Any]) -> list[str
 
 
 def shut_at(file: pathlib.Path, needed: int) -> Optional[pathlib.Path]:
-    """What keeps a file from all but root: the file, or a folder in which it is."""
+    """Return the folder above a file, or the file, that only root may use, or None; `needed` is the file's mode bit."""
     for part, bit in [*((it, 1) for it in reversed(file.parents)), (file, needed)]:
         try:
             found = part.stat()
-        except OSError:  # that it is not there is told elsewhere
+        except OSError:  # a missing file is reported elsewhere
             return None
         owner, group = found.st_mode >> 6 if found.st_uid else 0, found.st_mode >> 3 if found.st_gid else 0
         if not (owner | group | found.st_mode) & bit:

@@ -1,7 +1,7 @@
-"""Uploads that go on after a break: `Resumable Uploads for HTTP`, draft-ietf-httpbis-resumable-upload-05 (version 6).
+"""Resumable uploads: `Resumable Uploads for HTTP`, draft-ietf-httpbis-resumable-upload-05 (interop version 6).
 
-POST begins an upload, HEAD tells how much of it has come, PATCH goes on from there, and DELETE ends it. What comes is
-stored piece by piece: what is certified is never sent again, and at most a few pieces are on the gateway's disk."""
+POST begins an upload, HEAD returns how much of it has arrived, PATCH continues from there, and DELETE ends it. Files
+are stored piece by piece: certified pieces are never sent again, and at most a few are on the gateway's disk."""
 import asyncio
 import contextlib
 import pathlib
@@ -23,17 +23,17 @@ from .turns import WAITING, Turns, owner_of
 from .unfinished import IDLE, Unfinished, Upload, is_of
 
 VERSION, KIND = "6", "application/partial-upload"
-AHEAD = 2  # pieces of an upload that are stored while the next one comes
+AHEAD = 2  # pieces of an upload that are stored while the next one arrives
 OWN = "Upload-Offset", "Upload-Complete", "Upload-Length"
 FAULTS = Problem, client.Failed, client.Refused, OSError
 
 
 class Uploads:
-    """The uploads of a gateway that are not finished."""
+    """Answers requests for resumable uploads. Their state is in files (`unfinished`)."""
 
     def __init__(self, publisher: Publisher):
         self.publisher, self.active = publisher, dict[str, web.Request]()
-        self.turns = Turns(publisher.options.connections, 1)  # to be at an upload
+        self.turns = Turns(publisher.options.connections, 1)  # one request at a time may work on an upload
         self.known: Optional[Unfinished] = None
 
     @property
@@ -48,12 +48,12 @@ class Uploads:
         return min(self.publisher.options.most, LONGEST)
 
     async def create(self, request: web.Request) -> web.Response:
-        """Begins an upload with what the request brings."""
+        """Begins an upload, and stores the data that the request brings."""
         publisher, ledger = self.publisher, self.publisher.network.ledger
         epochs, is_last, length, size = publisher.epochs(request), whole(request), told_length(request), None
         must_be_plain(request)
         if is_last and (size := request.content_length) is not None and length not in (None, size):
-            raise Problem(400, "Upload-Length is not the length of the file that is sent whole")
+            raise Problem(400, "Upload-Length differs from the length of the file, which this request sends whole")
         length = size if length is None else length
         if max(length or 0, request.content_length or 0) > self.most:
             raise Problem(413, f"an upload has at most {self.most} bytes here", self.limits())
@@ -78,7 +78,7 @@ class Uploads:
             return await self.append(request, upload, is_last, place)
 
     async def look(self, request: web.Request) -> web.Response:
-        """How much of an upload has come, and what came of it."""
+        """Returns how much of an upload has arrived, its certified pieces, and the stored file if it is finished."""
         must_tell_nothing(request)
         async with self.hold(request) as upload:
             told: Told = {"offset": upload.offset, "length": length_of(upload), "complete": bool(upload.told)}
@@ -87,28 +87,28 @@ class Uploads:
             return as_json(told, headers=self.state(upload))
 
     async def patch(self, request: web.Request) -> web.Response:
-        """Goes on with an upload."""
+        """Continues an upload. Raises `Problem` (409) with the right offset if the request has another one."""
         if request.content_type != KIND:
-            raise Problem(415, f"what goes on with an upload has the type {KIND}", {"Accept-Patch": KIND})
+            raise Problem(415, f"to continue an upload, send Content-Type {KIND}", {"Accept-Patch": KIND})
         must_be_plain(request)
         is_last, told = whole(request), request.headers.get("Upload-Offset", "")
         if not re.fullmatch("[0-9]{1,15}", told):
-            raise Problem(400, "say in Upload-Offset how much of the file was sent before, as HEAD tells")
+            raise Problem(400, "send in Upload-Offset how much of the file was sent before, as HEAD reports it")
         must_promise_nothing(request)
         async with self.hold(request) as upload:
             state = self.state(upload)
             if upload.told:
-                raise Problem(400, "this upload is finished: GET tells what came of it", state)
+                raise Problem(400, "this upload is finished: GET returns the stored file's description", state)
             if int(told) != upload.offset:
-                text = f"{upload.offset} bytes have come, not {told}: go on from there"
+                text = f"{upload.offset} bytes have come, not {told}: continue from there"
                 raise Problem(409, text, state, expectedOffset=upload.offset, providedOffset=int(told))
             length, size = length_of(upload), request.content_length
             if is_last and size is not None and length not in (None, upload.offset + size):
-                raise Problem(400, f"this would not be the file of {length} bytes that was told", state)
+                raise Problem(400, f"with this the file would not have the {length} bytes that were announced", state)
             return await self.append(request, upload, is_last, {})
 
     async def end(self, request: web.Request) -> web.Response:
-        """Ends an upload; pieces that are certified stay registered until their epoch."""
+        """Drops an upload, and gives back what it cost beyond its certified pieces, which stay until their epoch."""
         must_tell_nothing(request)
         async with self.hold(request) as upload:
             self.kept.drop(upload)
@@ -117,7 +117,7 @@ class Uploads:
         return web.Response(status=204)
 
     def charge(self, request: web.Request, upload: Upload) -> Charge:
-        """What counts an upload, which has cost what came before."""
+        """Returns what counts an upload towards the share of its token; what arrived before is counted already."""
         charge = self.publisher.charge(request)
         charge.epoch = upload.about["epoch"]
         charge.go_on(upload.offset)
@@ -125,14 +125,14 @@ class Uploads:
 
     @contextlib.asynccontextmanager
     async def hold(self, request: web.Request, name: str = "") -> AsyncIterator[Upload]:
-        """The upload that a request names, while no other request is at it: an earlier one ends, whose client has gone
-        or would not ask again."""
+        """Locks the upload that a request names while the context runs. An earlier request for it in this gateway is
+        disconnected: its client is gone, or would not ask again. Raises `Problem` if there is no such upload."""
         name, owner = name or request.match_info["upload"], owner_of(request)
         if is_of(owner, name) and (earlier := self.active.get(name)) and earlier.transport:
             earlier.transport.abort()
         async with self.turns.take(f"{owner} {name}"):
             async with asyncio.timeout(WAITING):
-                while (lock := self.kept.lock(owner, name)) is None:  # another gateway is at it
+                while (lock := self.kept.lock(owner, name)) is None:  # another gateway works on it
                     await asyncio.sleep(0.1)
             with lock:
                 self.active[name] = request
@@ -145,7 +145,7 @@ class Uploads:
     async def append(
         self, request: web.Request, upload: Upload, is_last: bool, headers: dict[str, str]
     ) -> web.Response:
-        """Takes what a request brings, and finishes the file with it, where it is the last."""
+        """Stores the data that a request brings, finishes the file if `is_last`, and returns the response."""
         charge, length, told = self.charge(request, upload), length_of(upload), None
         most = min(self.most, self.most if length is None else length) - upload.offset
         if upload.about["until"] <= self.publisher.network.ledger.writing_epoch:
@@ -155,13 +155,13 @@ class Uploads:
             async with self.publisher.uploads.take(owner_of(request)):
                 await self.take(upload, self.publisher.body(request, most, charge, None))
                 if is_last and length not in (None, upload.offset):
-                    raise Problem(400, f"{upload.offset} of {length} bytes have come, and more was to come")
+                    raise Problem(400, f"{upload.offset} of {length} bytes have come, but Upload-Complete is ?1")
                 told = await self.finish(upload) if is_last else None
         except FAULTS as fault:
             upload.touch()
             raise failed_with(fault, listed(upload), {**headers, **self.state(upload)}) from None
         finally:
-            charge.replace(upload.offset)  # what came and could not be kept comes again, and costs then
+            charge.replace(upload.offset)  # what arrived and could not be kept is sent again, and is charged then
         upload.touch()
         if told is None:
             return web.Response(status=201 if headers else 204, headers={**headers, **self.state(upload)})
@@ -170,9 +170,8 @@ class Uploads:
         return as_json(upload.told, 200 if told["alreadyCertified"] else 201, headers)
 
     async def take(self, upload: Upload, stream: AsyncIterator[bytes]) -> None:
-        """Keeps what comes, and has each piece stored once it is whole: one comes while those before it are stored.
-
-        What could not be stored before is so first: no more than a few pieces are ever on the disk."""
+        """Keeps what arrives, and has each piece stored in the network once it is whole: a piece arrives while up to
+        `AHEAD` are stored. Pieces left from earlier requests are stored first, so only a few are ever on the disk."""
         tasks = list["asyncio.Task[None]"]()
 
         def store(number: int) -> None:
@@ -191,20 +190,20 @@ class Uploads:
                             await tasks[-AHEAD]
                         store(full)
         finally:
-            said = await asyncio.gather(*tasks, return_exceptions=True)  # what came whole is stored, whatever follows
+            said = await asyncio.gather(*tasks, return_exceptions=True)  # whole pieces are stored, whatever follows
         for fault in said:
             if fault is not None:
                 raise fault
 
     async def store(self, upload: Upload, number: int, before: "list[asyncio.Task[None]]") -> None:
-        """Stores a piece, and notes it behind those before it."""
+        """Stores a piece in the network, and records it once the tasks `before`, those of earlier pieces, are done."""
         name, was_there = await self.publisher.writer.store_blob(upload.piece(number), upload.about["until"])
         for task in before:
             await task
         upload.record(name, was_there)
 
     async def finish(self, upload: Upload) -> Told:
-        """Stores the last piece and the list of all; what is told of the file."""
+        """Stores the last piece, and the list of pieces if there are several; returns the file's description."""
         store, until, names = self.publisher.writer.store_blob, upload.about["until"], upload.names
         size, marked, was_there = upload.offset, upload.is_marked, upload.was_there
         if any(upload.sizes) or not names:
@@ -223,7 +222,7 @@ class Uploads:
         return told
 
     def state(self, upload: Upload) -> dict[str, str]:
-        """The headers that tell how far an upload is."""
+        """Returns the headers with the progress and the limits of an upload."""
         length = length_of(upload)
         told = {"Upload-Offset": str(upload.offset), "Upload-Complete": "?1" if upload.told else "?0"}
         told |= {} if length is None else {"Upload-Length": str(length)}
@@ -233,28 +232,28 @@ class Uploads:
         return {"Upload-Limit": f"max-size={self.most}, expires={IDLE}"}
 
     async def share(self, request: web.Request, response: web.StreamResponse) -> None:
-        """Tells what an upload may be to whoever asks before it."""
+        """Adds `Upload-Limit` to the response to OPTIONS, for clients that ask before an upload."""
         if request.method == "OPTIONS" and request.path == "/v1/uploads":
             response.headers.update(self.limits())
 
 
 def hears_early(request: web.Request) -> bool:
-    """Whether who asks takes a response before the last one; a server between may not."""
+    """Whether the client accepts an interim response (104). A proxy between may not, so none is sent through one."""
     wished = request.headers.get("Upload-Draft-Interop-Version") == VERSION
     passed_on = any(name in request.headers for name in PASSED_ON)
     return wished and request.version == aiohttp.HttpVersion11 and not passed_on
 
 
 def whole(request: web.Request) -> bool:
-    """Whether what a request brings is the file's end."""
+    """Whether the file ends with this request, by `Upload-Complete`; raises `Problem` if that is missing."""
     told = request.headers.get("Upload-Complete", "")
     if told not in ("?0", "?1"):
-        raise Problem(400, "say in Upload-Complete whether the file ends with this: ?1, or ?0 where more follows")
+        raise Problem(400, "send Upload-Complete: ?1 if the file ends with this request, ?0 if more follows")
     return told == "?1"
 
 
 def told_length(request: web.Request) -> Optional[int]:
-    """The length of the file, where a request tells it."""
+    """Returns the file's length by `Upload-Length`, or None without it; raises `Problem` if it is no number."""
     told = request.headers.get("Upload-Length")
     if told is not None and not re.fullmatch("[0-9]{1,15}", told):
         raise Problem(400, "Upload-Length is the number of the file's bytes")
@@ -262,7 +261,7 @@ def told_length(request: web.Request) -> Optional[int]:
 
 
 def length_of(upload: Upload) -> Optional[int]:
-    """The length of an upload's file, where it is known."""
+    """Returns the length of an upload's file, or None if it is not known."""
     length: Optional[int] = upload.told["size"] if upload.told else upload.about["length"]
     return length
 
@@ -273,9 +272,9 @@ def listed(upload: Upload) -> list[str]:
 
 def must_tell_nothing(request: web.Request) -> None:
     if any(name in request.headers for name in OWN):
-        raise Problem(400, f"this request takes no {', '.join(OWN)}")
+        raise Problem(400, f"this request takes none of {', '.join(OWN)}")
 
 
 def must_promise_nothing(request: web.Request) -> None:
     if digests.promised(request):
-        raise Problem(400, "PUT /v1/blobs alone checks a SHA-256 that is promised; here the identifier tells as much")
+        raise Problem(400, "resumable uploads check no SHA-256: send it with PUT /v1/blobs, or compare the identifier")

@@ -11,12 +11,12 @@ class Waiting:
         self.waiting = dict["asyncio.Future[None]", Callable[[], object]]()
 
     def tell(self) -> None:
-        """Wakes the tasks whose condition holds now, or raises."""
+        """Wakes the tasks whose condition holds now. If a condition raises, its own task gets the exception."""
         for waiting, holds in list(self.waiting.items()):
             try:
                 if not waiting.done() and holds():
                     waiting.set_result(None)
-            except Exception as fault:  # of one condition: only its own task gets it
+            except Exception as fault:  # for that one alone
                 waiting.set_exception(fault)
 
     async def until(self, holds: Callable[[], object], seconds: Optional[float]) -> bool:

@@ -1,6 +1,7 @@
-"""A blob that comes whole to a shard, in one request: its metadata, both slivers, and the wish for the node's word.
+"""A blob that comes to a shard whole: one request has its metadata and both slivers, and asks for an acknowledgement.
 
-The judge is given the request where it lies: what the ledger says is written before the parts, and the wish behind."""
+The judge reads the request where it is in memory: the ledger's entries are written in front of the parts, and the
+request for an acknowledgement behind them."""
 import dataclasses
 import functools
 import itertools
@@ -15,34 +16,34 @@ from .. import wire
 
 from . import judge
 
-WHOLE = 0x62  # the request's kind; behind it stand three envelopes
-WISH = HEAD.size + 33  # bytes of an envelope with the wish
+WHOLE = 0x62  # the kind of the request; three envelopes follow
+WISH = HEAD.size + 33  # bytes of an envelope that asks for an acknowledgement
 
 
 def request_of(encoded: client.Encoded, shard: int) -> list[Data]:
-    """The request that stores a blob at a shard."""
+    """Return the request that stores a blob at a shard, in parts."""
     return [bytes([WHOLE]), *parts((encoded.metadata, *encoded.slivers[shard]))]
 
 
 def front(shape: client.Shape) -> int:
-    """The bytes before a request in which all has room that the ledger says of a blob."""
+    """Return the number of bytes to keep free before a request, enough for all that the ledger says about a blob."""
     return (2 * shape.shards + 1) * (HEAD.size + 37)
 
 
 def longest(shape: client.Shape) -> int:
-    """The bytes of the longest request."""
+    """Return the length of the longest request, in bytes."""
     return 1 + 3 * (HEAD.size + 40) + 64 * shape.shards + sum(shape.symbols) * shape.widest
 
 
 def place(shape: client.Shape, size: int) -> memoryview:
-    """Memory for a request of so many bytes, with room before and behind it."""
+    """Return memory for a request of `size` bytes; the object below it has room before and after the request."""
     before = front(shape)
     return wire.memory(before + size + WISH)[before:][:size]
 
 
 @dataclasses.dataclass
 class Whole:
-    """The request: its memory, where that begins and ends, and what is in it."""
+    """A request: the memory that it is in, where it begins and ends there, and its contents."""
 
     memory: memoryview
     start: int
@@ -52,8 +53,8 @@ class Whole:
 
     @classmethod
     def read(cls, shape: client.Shape, request: memoryview) -> Optional["Whole"]:
-        """What a request that came to a `place` has; nothing where it is not of this form. Of more envelopes than three
-        no more is read: anybody may send two million of them."""
+        """Return the contents of a request whose memory `place` returned, or None if it is malformed. At most four
+        envelopes are read, as anybody may send two million of them."""
         try:
             came = [part for _, part in itertools.islice(split(request[1:]), 4)]
         except ValueError:
@@ -67,10 +68,10 @@ class Whole:
         return cls(memory, start, start + len(request), name, came)
 
     def judge(self, engine: Engine, faults: int, shard: int, told: Sequence[bytes]) -> judge.Found:
-        """What a shard that holds nothing replies to the parts and to the wish, after what it is told; and no part of
-        what it holds is wrong."""
+        """Return the replies of a shard that holds nothing to the parts and to the request for an acknowledgement, once
+        it has the entries in `told`; and no wrong parts, as it holds none."""
         words = b"".join(map(client.envelope, told))
-        begin = self.start + 1 - len(words)  # where the kind stood, the first part begins
+        begin = self.start + 1 - len(words)  # their last byte takes the place of the kind, just before the first part
         self.memory[begin : self.start + 1] = words  # noqa: E203
         self.memory[self.end :][:WISH] = client.envelope(self.wish)  # noqa: E203
         pages = sum(pages_of(part) for part in self.parts)
@@ -78,7 +79,7 @@ class Whole:
         try:
             return judge.serve(engine, faults, shard, pages, data, count, 512 * count)[len(told) :], []  # noqa: E203
         finally:
-            self.memory[self.start] = WHOLE  # the request is as it came: who replies looks at its kind
+            self.memory[self.start] = WHOLE  # restored, as `Node.reply` looks at the kind
 
     @functools.cached_property
     def wish(self) -> bytes:
