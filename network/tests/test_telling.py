@@ -13,6 +13,9 @@ from walrus.network.settings import Settings
 
 
 class Addresses(unittest.IsolatedAsyncioTestCase):
+    async def asyncSetUp(self) -> None:
+        asyncio.get_running_loop().set_debug(False)  # it would say on standard error what is slow on a busy machine
+
     def test_an_address_of_ipv6_has_the_form_of_an_entry(self) -> None:
         rest = dict.fromkeys(("program", "database", "authority", "certificate", "key"), "")
         for host, announced, wanted in (
