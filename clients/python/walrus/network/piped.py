@@ -1,4 +1,4 @@
-"""Stores what a pipe brings, such as standard input: its length is not known, and it may pause for any time."""
+"""Stores what a pipe brings, such as standard input: its length is not known, and it may pause."""
 import asyncio
 import contextlib
 import os
