@@ -1,4 +1,4 @@
-"""Stores what a pipe brings, such as standard input: its length is not known, and it may pause for any time."""
+"""Stores what a pipe brings, such as standard input: its length is not known, and it may pause."""
 import asyncio
 import contextlib
 import os
@@ -133,13 +133,12 @@ class Piped(Sending):
 
 async def readable(source: int) -> None:
     """Waits until something can be read from a descriptor. What cannot be waited for, such as a file, can be read."""
-    loop = asyncio.get_running_loop()
-    ready: "asyncio.Future[None]" = loop.create_future()
+    loop, ready = asyncio.get_running_loop(), asyncio.Event()
     try:
-        loop.add_reader(source, lambda: ready.done() or ready.set_result(None))
+        loop.add_reader(source, ready.set)
     except OSError:
         return
     try:
-        await ready
+        await ready.wait()
     finally:
         loop.remove_reader(source)
