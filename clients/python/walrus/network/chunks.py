@@ -87,7 +87,7 @@ class Writer:
                         await tasks[-AHEAD]
                     tasks.append(asyncio.create_task(self.store_blob(piece, until)))
                     del piece
-            done = await asyncio.gather(*tasks)
+            done = [await task for task in tasks]
             identifier, count = b"".join(name for name, _ in done), len(done)
             if count > 1 or first == MARK:
                 done.append(await self.store_blob(File(size, identifier).listed(), until))

@@ -183,7 +183,7 @@ class Shard:
         async with self.store.alone(self.holding, identifier):
             if self.epoch != self.ledger.writing_epoch:
                 return [answer(DECLINED)]  # the next committee began with what was held then
-            if self.store.sizes(self.holding, self.epoch, identifier) or self.store.wrong(self.holding, identifier):
+            if self.store.sizes(self.holding, self.epoch, identifier):
                 return []
             told = entries_of(self.ledger, self.epoch, identifier)
             fits = pages(map(len, requests)) <= self.free_pages()
