@@ -1,7 +1,6 @@
 """How the client, the front and the examples run: on asyncio, and in one thread."""
 import asyncio
 import contextlib
-import gc
 import importlib
 import os
 import sys
@@ -20,11 +19,7 @@ def wait_without_threads() -> None:
 
 
 def run(main: Coroutine[Any, Any, Result]) -> Result:
-    """Runs `main`, on uvloop if the variable WALRUS_LOOP says so, and returns its result. Python looks for cycles of
-    objects less often than by default, which took a tenth of a gateway's processor time, and never in what is imported.
-    """
-    gc.freeze()
-    gc.set_threshold(5_000)
+    """Runs `main`, on uvloop if the variable WALRUS_LOOP says so, and returns its result."""
     if os.environ.get("WALRUS_LOOP") == "uvloop":
         with asyncio.Runner(loop_factory=importlib.import_module("uvloop").new_event_loop) as runner:
             return runner.run(main)

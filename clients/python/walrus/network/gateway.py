@@ -3,6 +3,7 @@ import asyncio
 import collections
 import contextlib
 import ctypes
+import gc
 import mimetypes
 import pathlib
 import signal
@@ -245,6 +246,8 @@ async def serve(
 ) -> int:
     """Runs a gateway until `told` is set, and returns 0. Raises if it can no longer follow the ledger or ask nodes."""
     keep_buffers()
+    gc.freeze()
+    gc.set_threshold(5_000)  # the default of 700 objects costs a tenth of its processor time when many store at once
     async with Network(access, seconds=options.patience, kept=True) as network:
         gateway = Gateway(network, network.authority.parent, options)
         try:
