@@ -247,7 +247,7 @@ async def serve(
     """Runs a gateway until `told` is set, and returns 0. Raises if it can no longer follow the ledger or ask nodes."""
     keep_buffers()
     gc.freeze()
-    gc.set_threshold(5_000)  # the default of 700 objects costs a tenth of its processor time when many store at once
+    gc.set_threshold(2_000)  # the default of 700 objects costs a tenth of its processor time when many store at once
     async with Network(access, seconds=options.patience, kept=True) as network:
         gateway = Gateway(network, network.authority.parent, options)
         try:
