@@ -52,9 +52,6 @@ class Fair:
 
     async def acquire(self, whom: str) -> None:
         """Wait for a turn and take a place; the caller must `release` it."""
-        if self.free:  # so nobody waits
-            self.free -= 1
-            return
         place: "asyncio.Future[None]" = asyncio.get_running_loop().create_future()
         self.waiting.add(whom, place)
         self.serve()
