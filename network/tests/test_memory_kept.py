@@ -1,14 +1,16 @@
 """What a port keeps in memory of its clients, and a client of a store that nobody waits for any more."""
 import asyncio
 import contextlib
+import gc
 import types
 import unittest
 import weakref
+from typing import AsyncIterator
 from unittest import mock
 
 import harness  # noqa: F401  # which says where walrus is
 from walrus import client, frames, port, wire
-from walrus.network import peers
+from walrus.network import chunks, peers
 from wire_case import Taken
 
 
@@ -111,6 +113,25 @@ class Cancelled(unittest.IsolatedAsyncioTestCase):
             while await node.read(65_536):
                 pass
         self.assertEqual((node.ended, seat.idle, seat.fault), (True, [], ""))
+
+    async def test_of_a_store_that_failed_nothing_is_in_memory(self) -> None:
+        """An error that leads to its task by the frame of who waited is a cycle, which Python finds late."""
+        seen, network = list["weakref.ref[Counted]"](), mock.Mock(ledger=mock.Mock(writing_epoch=0))
+
+        async def fail(blob: bytes, until: int) -> None:
+            seen.append(weakref.ref(encoded := Counted(blob)))
+            raise client.Failed(f"{len(encoded)} bytes are not certified", {})
+
+        async def stream() -> AsyncIterator[bytes]:
+            yield b"blob"
+
+        gc.disable()
+        self.addCleanup(gc.enable)
+        writer = chunks.Writer(network, mock.Mock(), 1)
+        with mock.patch.object(writer, "store_blob", fail), contextlib.suppress(client.Failed):
+            await writer.store(stream(), 1)
+        await asyncio.sleep(0)  # the loop has the step that raised
+        self.assertEqual([it() for it in seen], [None])
 
 
 if __name__ == "__main__":

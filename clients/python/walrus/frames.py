@@ -99,7 +99,7 @@ def read_fields(form: Any, cursor: Cursor) -> Any:
 
 
 def write_fields(value: Any) -> bytes:
-    return b"".join(FIELDS[name].write(field) for name, field in value._asdict().items())
+    return b"".join(FIELDS[name].write(field) for name, field in zip(value._fields, value))
 
 
 DIGEST = Field(lambda cursor, _: cursor.take(32), bytes)

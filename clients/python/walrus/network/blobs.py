@@ -59,10 +59,9 @@ class Blob:
     def voted(self, kind: str, epoch: int, shards: frozenset[int], needed: int) -> "Blob":
         """Returns this blob with the votes of these shards added and those dropped that no longer count. `needed`
         shards are a quorum."""
-        said = self.votes[kind].get(epoch, frozenset()) | shards
-        blob = Blob(self.until, self.poster, {**self.votes, kind: {**self.votes[kind], epoch: said}})
-        first, _ = blob.quorum(kind, needed) or (None, 0)
-        return Blob(self.until, self.poster, {**self.votes, kind: counting(blob.votes[kind], first)})
+        votes = {**self.votes[kind], epoch: self.votes[kind].get(epoch, frozenset()) | shards}
+        first = min((it for it, said in votes.items() if len(said) >= needed), default=None)
+        return Blob(self.until, self.poster, {**self.votes, kind: counting(votes, first)})
 
 
 def counting(votes: Mapping[int, frozenset[int]], first: Optional[int]) -> dict[int, frozenset[int]]:
@@ -196,8 +195,8 @@ class Blobs(Mapping[bytes, Blob]):
 
     def is_over(self, identifier: bytes) -> bool:
         """Whether a blob is over and still has a row."""
-        words = "SELECT 1 FROM blobs WHERE identifier = ?"
-        return identifier not in self and bool(self.base.execute(words, (identifier,)).fetchone())
+        words, is_live = "SELECT 1 FROM blobs WHERE identifier = ?", identifier in self
+        return not is_live and bool(self.kept[identifier] and self.base.execute(words, (identifier,)).fetchone())
 
     def drop(self, identifiers: Iterable[bytes]) -> None:
         """Deletes the rows of those of these blobs that are over."""

@@ -93,13 +93,20 @@ class Writer:
                 done.append(await self.store_blob(File(size, identifier).listed(), until))
                 identifier = done[-1][0]
         finally:
-            for task in tasks:
-                task.cancel()
-            said = await asyncio.gather(*tasks, return_exceptions=True)
-            stored += [it[0] for it in said if isinstance(it, tuple)]
+            stored += await self.end(tasks)
         told = {"blobId": identifier.hex(), "size": size, "pieces": count}
         told |= await self.kept(name for name, _ in done)
         return told | {"alreadyCertified": all(before for _, before in done)}
+
+    @staticmethod
+    async def end(tasks: list["asyncio.Task[tuple[bytes, bool]]"]) -> list[bytes]:
+        """Ends tasks that store blobs, and returns the identifiers of those that are stored. It empties the list: an
+        error that a caller raises would otherwise keep the blob of its task in memory until Python finds the cycle."""
+        for task in tasks:
+            task.cancel()
+        said = await asyncio.gather(*tasks, return_exceptions=True)
+        tasks.clear()
+        return [it[0] for it in said if isinstance(it, tuple)]
 
     async def kept(self, names: Iterable[bytes]) -> Told:
         """Returns the first epoch in which one of these blobs is not kept, and the certificate of the last one. Raises

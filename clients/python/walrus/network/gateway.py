@@ -3,6 +3,7 @@ import asyncio
 import collections
 import contextlib
 import ctypes
+import gc
 import mimetypes
 import pathlib
 import signal
@@ -103,7 +104,7 @@ class Gateway(Server):
     async def listen(self, host: str = "127.0.0.1", port: int = 0) -> int:
         """Starts to answer requests, and returns the port."""
         app, publisher = (
-            web.Application(middlewares=[self.answer, self.place, self.guard.check, self.sort]),
+            web.Application(middlewares=[self.answer, self.guard.check, self.sort]),
             self.publisher,
         )
         app.on_response_prepare.extend([self.guard.share, self.guard.keep])
@@ -147,25 +148,20 @@ class Gateway(Server):
 
     @web.middleware
     async def answer(self, request: web.Request, handler: Callable[..., Awaitable[Any]]) -> web.StreamResponse:
-        """Passes a request on, turns expected errors into responses in JSON, and counts and times all responses."""
+        """Passes a request on, turns expected errors into responses in JSON, and counts and times all responses. A
+        folder's own host (`site`) serves that folder and nothing else."""
         request.protocol.first.cancel()  # type: ignore[attr-defined]
         faults = Problem, client.Failed, OSError, web.HTTPException
         method = request.method if request.method in hdrs.METH_ALL else "other"
         resource = request.match_info.route.resource
         with self.times.taking(f'method="{method}",path="{resource.canonical if resource else "other"}"'):
             try:
+                if name := self.folders.at_site(request):
+                    request["site"] = name
                 response: web.StreamResponse = await handler(request)
             except faults as fault:
                 response = problem_of(fault).response()
         self.requests[f'method="{method}",status="{response.status}"'] += 1
-        return response
-
-    @web.middleware
-    async def place(self, request: web.Request, handler: Callable[..., Awaitable[Any]]) -> web.StreamResponse:
-        """Marks a request (`site`) that names a folder's own host: such a host serves that folder and nothing else."""
-        if name := self.folders.at_site(request):
-            request["site"] = name
-        response: web.StreamResponse = await handler(request)
         return response
 
     @web.middleware
@@ -251,6 +247,8 @@ async def serve(
 ) -> int:
     """Runs a gateway until `told` is set, and returns 0. Raises if it can no longer follow the ledger or ask nodes."""
     keep_buffers()
+    gc.freeze()
+    gc.set_threshold(2_000)  # the default of 700 objects costs a tenth of its processor time when many store at once
     async with Network(access, seconds=options.patience, kept=True) as network:
         gateway = Gateway(network, network.authority.parent, options)
         try:

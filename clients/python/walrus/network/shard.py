@@ -183,7 +183,7 @@ class Shard:
         async with self.store.alone(self.holding, identifier):
             if self.epoch != self.ledger.writing_epoch:
                 return [answer(DECLINED)]  # the next committee began with what was held then
-            if self.store.sizes(self.holding, self.epoch, identifier) or self.store.wrong(self.holding, identifier):
+            if self.store.sizes(self.holding, self.epoch, identifier):
                 return []
             told = entries_of(self.ledger, self.epoch, identifier)
             fits = pages(map(len, requests)) <= self.free_pages()
@@ -221,7 +221,7 @@ class Shard:
 
     def free_pages(self, part: float = 1.0) -> int:
         """Return the number of free disk pages beyond `part` of the reserve."""
-        disk = shutil.disk_usage(self.store.path.parent)
+        disk = shutil.disk_usage(self.store.name)
         return min(max(0, int(disk.free - part * self.reserve * disk.total)) // 4096, 2**32 - 1)
 
     async def keep(self, identifier: bytes, judged: Judged, parts: Optional[Parts], files: Writing) -> list[bytes]:

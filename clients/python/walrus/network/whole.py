@@ -3,7 +3,6 @@
 The judge reads the request where it is in memory: the ledger's entries are written in front of the parts, and the
 request for an acknowledgement behind them."""
 import dataclasses
-import functools
 import itertools
 from typing import Optional, Sequence
 
@@ -39,6 +38,12 @@ def place(shape: client.Shape, size: int) -> memoryview:
     """Return memory for a request of `size` bytes; the object below it has room before and after the request."""
     before = front(shape)
     return wire.memory(before + size + WISH)[before:][:size]
+
+
+def name_in(request: memoryview) -> bytes:
+    """Return the identifier in the second part of a request, which is not checked; no bytes if that is no sliver."""
+    second = 1 + HEAD.size + int.from_bytes(request[4:8], "big") + HEAD.size  # the first part's length is there
+    return bytes(request[second + 1 :][:32]) if request[second : second + 1] == bytes([SLIVER]) else b""  # noqa: E203
 
 
 @dataclasses.dataclass
@@ -81,6 +86,6 @@ class Whole:
         finally:
             self.memory[self.start] = WHOLE  # restored, as `Node.reply` looks at the kind
 
-    @functools.cached_property
+    @property
     def wish(self) -> bytes:
-        return client.write_frame(client.Ack(self.identifier))
+        return bytes([client.ACK]) + self.identifier
