@@ -7,7 +7,7 @@ from ..frames import answer, code_of
 
 from .ledger import ACK, entry_key
 from .shard import DECLINED, FULL, Shard
-from .whole import Whole, name_in
+from .whole import Whole
 
 if TYPE_CHECKING:
     from .node import Node
@@ -25,7 +25,9 @@ class Intake:
 
     async def expect(self, request: memoryview) -> None:
         """Wait until the ledger shows the registration of the blob in a request, for `HEARD` seconds at most."""
-        if (identifier := name_in(request)) and identifier not in self.node.ledger.blobs:
+        whole = Whole.read(self.node.port.shape, request)
+        if whole and whole.identifier not in self.node.ledger.blobs:
+            identifier = whole.identifier
             await self.node.until(lambda it: identifier in it.blobs, HEARD)
 
     async def store(self, number: int, request: memoryview) -> list[bytes]:

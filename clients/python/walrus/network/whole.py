@@ -40,12 +40,6 @@ def place(shape: client.Shape, size: int) -> memoryview:
     return wire.memory(before + size + WISH)[before:][:size]
 
 
-def name_in(request: memoryview) -> bytes:
-    """Return the identifier in the second part of a request, which is not checked; no bytes if that is no sliver."""
-    second = 1 + HEAD.size + int.from_bytes(request[4:8], "big") + HEAD.size  # the first part's length is there
-    return bytes(request[second + 1 :][:32]) if request[second : second + 1] == bytes([SLIVER]) else b""  # noqa: E203
-
-
 @dataclasses.dataclass
 class Whole:
     """A request: the memory that it is in, where it begins and ends there, and its contents."""
