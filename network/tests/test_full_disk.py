@@ -93,6 +93,24 @@ class Followers(FullCase, RulesCase):
         self.kept.again = 0.0
         self.assertTrue(self.kept.settle())
 
+    async def test_who_has_heard_all_hears_over_a_full_disk_that_there_is_nothing_more(self) -> None:
+        """Otherwise a gateway that lacks nothing would take the ledger to be away, and stop reads."""
+        self.enterContext(mock.patch.multiple(state, HELD=SOME, LATER=0.0, REST=0))
+        view = View(mock.Mock(said=""), self.kept)
+        texts = [entry_key(OPERATOR, "begin", 0, 1, "a,b,c,d")]
+        texts += [entry_key("x", "register", f"{number:064}", 5) for number in range(SOME + 5)]
+        start, Full.full = Chain(0, bytes(32)), True
+        chain, entries = start.behind(texts), start.followed(texts)
+        await asyncio.wait_for(view.enter(News(chain, entries, len(entries), "ab")), 60)
+        self.assertEqual((self.kept.takes_more(), view.caught_up), (False, True))
+        heard = view.heard_at
+        await asyncio.wait_for(view.enter(News(chain, [], len(entries), "ab")), 60)
+        self.assertGreater(view.heard_at, heard)
+        more = [entry_key("x", "register", f"{SOME + 5:064}", 5)]
+        with self.assertRaises(TimeoutError):
+            await asyncio.wait_for(view.enter(News(chain.behind(more), chain.followed(more), len(entries), "ab")), 2)
+        self.assertEqual((view.chain, len(self.kept.fresh)), (chain, len(entries)))
+
     async def test_over_a_disk_that_is_known_to_be_full_nothing_is_tried(self) -> None:
         entries = Chain(0, bytes(32)).followed([entry_key(OPERATOR, "begin", 0, 1, "a,b,c,d")])
         self.kept.ledger.apply(entries[0])
@@ -159,10 +177,21 @@ class Recorders(FullCase, RecorderCase):
         Full.full, top = True, self.etcd.top
         for number in range(SOME):
             await reader.step(Batch(reader.chain, [entry_key("y", "register", f"{number:064}", 5)]))
+        more, reader.seen = Batch(reader.chain, [entry_key("y", "register", f"{SOME:064}", 5)]), 0.0
         with self.assertRaises(Failed):
-            await reader.step(Batch(reader.chain, [entry_key("y", "register", f"{SOME:064}", 5)]))
+            await reader.step(more)
+        self.assertEqual((await reader.step(), reader.fresh), (True, True))  # as it has read all that etcd has
         self.assertEqual((self.etcd.top, reader.chain.place), (reader.head(reader.chain), 402 + SOME))
         self.assertNotEqual(self.etcd.top, top)
+        await writer.catch_up()
+        self.assertTrue(await writer.step(more))
+        reader.seen = 0.0
+        with self.assertRaises(Failed):
+            await reader.step()
+        self.assertEqual((reader.fresh, reader.chain.place), (False, 402 + SOME))
+        Full.full = False
+        await reader.catch_up()
+        self.assertEqual((reader.fresh, reader.chain), (True, writer.chain))
 
 
 if __name__ == "__main__":

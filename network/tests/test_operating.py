@@ -14,7 +14,7 @@ from unittest import mock
 import harness
 from ledger_case import FOUR, LedgerCase, registration
 from walrus import client, frames
-from walrus.network import operating
+from walrus.network import commands, operating
 from walrus.network.entries import ADDRESS, OPERATOR, entry_key
 from walrus.network.client import Network
 from walrus.network.follower import Recorders, Refused, Unreachable
@@ -52,7 +52,7 @@ class Handover(LedgerCase):
         return f"{said.getvalue()}{caught.exception.args[0]}"
 
     def words_of(self, owners: Sequence[str], **options: Any) -> argparse.Namespace:
-        words = {"json": False, "force": False, "yes": True, "concentrated": False, "seconds": 0.1, "epoch": 0}
+        words = {"json": False, "force": False, "yes": True, "concentrated": False, "seconds": 0.1, "epoch": None}
         return argparse.Namespace(folder=self.folder, owners=owners, **{**words, **options})
 
     async def done(self, *owners: str, **options: Any) -> str:
@@ -172,7 +172,25 @@ class Handover(LedgerCase):
         told = {"epoch": 1, "nodes": NODES, "ended": []}
         self.assertEqual(operating.json.loads(await self.done(*NODES, epoch=1, json=True)), told)
         self.assertIn("has other nodes than these", await self.hand_over(*NODES[:3], "node-4", epoch=1))
+        for epoch in (0, -1):  # a plan may have begun long ago, or begin later
+            self.assertIn(f"epoch {epoch} has begun before: nothing", await self.done(epoch=epoch))
         self.assertIn("epoch 2 comes next, not epoch 3", await self.hand_over(*NODES, epoch=3))
+        self.assertFalse(await self.epoch_begins())
+
+    async def test_a_handover_under_way_is_waited_for_even_if_its_nodes_do_not_answer(self) -> None:
+        servers = [await self.node(name) for name in (*NODES[:3], "node-4")]
+        names = [*NODES[:3], "node-4"]
+        await self.hand_over(*names)
+        for server in servers:
+            server.close()
+        for epoch, how in ((1, "with the same command"), (None, "with --epoch 1, .* would later begin epoch 2")):
+            said = await self.hand_over(*names, epoch=epoch)
+            self.assertRegex(said, f"epoch 1 has not begun after 0.1 s: .* The handover goes on; wait for it {how}$")
+        self.assertIn("node-3 told the ledger no address", await self.hand_over(*NODES, epoch=1))
+        async with asyncio.TaskGroup() as group:
+            group.create_task(self.finish(1))
+            self.assertIn("epoch 1 has begun", await self.done(*names, epoch=1, seconds=30))
+        self.assertIn("too few are left to finish, so nothing was begun", await self.hand_over(*names, epoch=2))
         self.assertFalse(await self.epoch_begins())
 
     async def test_nodes_keep_their_shards_in_whatever_order_they_are_named(self) -> None:
@@ -239,8 +257,15 @@ class Arranged(unittest.TestCase):
             ("a a b c", "b a a d", "a a b d"),
             ("a a a b", "c b a c", "a c c b"),
             ("a b c d", "e f g h", "e f g h"),
+            ("a b c d", "e f c d", "e f c d"),
+            ("a b c d", "f e c d", "e f c d"),
         ):
             self.assertEqual(operating.arranged(now.split(), named.split()), wanted.split())
+
+    def test_epoch_0_is_an_epoch_like_any_other(self) -> None:
+        for words, epoch in (([], None), (["--epoch", "0"], 0), (["--epoch", "-1"], -1), (["--epoch", "2"], 2)):
+            with mock.patch("sys.argv", ["walrus-net", "handover", "folder", *words]):
+                self.assertEqual(commands.parse().epoch, epoch)
 
 
 class Anew(LedgerCase):

@@ -1,17 +1,22 @@
 """What the pages and the units of the network say, compared with the package."""
 import dataclasses
+import json
 import os
 import pathlib
 import re
 import shutil
 import subprocess
 import tempfile
+import time
 import unittest
+from typing import Any
 
 import harness
 from walrus import port
 from walrus.network import intake, node
 from walrus.network.checking import KINDS
+
+PIPE: Any = {"capture_output": True, "text": True}
 
 
 class Pages(unittest.TestCase):
@@ -79,6 +84,18 @@ class Pages(unittest.TestCase):
         for path in (harness.HERE.parent / "units").glob("*.service"):
             self.assertRegex(path.read_text(), r"(?m)^StartLimitIntervalSec=0$", path.name)
             self.assertRegex(path.read_text(), r"(?m)^Restart=(always|on-failure)$", path.name)
+
+    @unittest.skipUnless(shutil.which("jq"), "jq is not here")
+    def test_the_line_for_a_timer_names_the_epoch_that_is_due_and_the_next_one_at_most(self) -> None:
+        page = (harness.HERE.parent / "OPERATING.md").read_text()
+        [line] = re.findall(r"--epoch \$\(walrus-net status --json \| jq '(.*?)'\)", page)
+        cases = [(0, 0.1, 0), (0, 13.9, 0), (0, 14.1, 1), (1, 14.1, 1), (0, 99, 1), (5, 99, 6), (8, 99, 7), (0, -1, -1)]
+        for epoch, days, due in cases:  # days since the plan began, which may be in the future
+            plan = {"epoch": 0, "since": int(time.time() - 86_400 * days), "seconds": 14 * 86_400, "next": None}
+            ran = subprocess.run(["jq", line], input=json.dumps({"epoch": epoch, "calendar": plan}), **PIPE)
+            self.assertEqual((ran.returncode, ran.stdout), (0, f"{due}\n"), (epoch, days))
+        for told in (json.dumps({"epoch": 3, "calendar": None}), ""):
+            self.assertEqual(subprocess.run(["jq", line], input=told, **PIPE).stdout, "")  # so nothing begins
 
     def test_a_disk_for_which_linux_waits_costs_no_node(self) -> None:
         """It gives a command up after 30 s and five retries; the last beat may be a third of the time ago."""

@@ -6,6 +6,7 @@ import io
 import json
 import pathlib
 import random
+import re
 import sqlite3
 import tempfile
 import unittest
@@ -15,6 +16,7 @@ from unittest import mock
 from ledger_case import FOUNDED, Memory, registration
 from walrus.network import keeping, recorder, recording, state
 from walrus.network.entries import ADDRESS, Chain, entry_key
+from walrus.network.etcd import Batch
 from walrus.network.settings import RecorderSettings
 from walrus.network.waiting import Waiting
 
@@ -62,6 +64,30 @@ class FullDisk(unittest.IsolatedAsyncioTestCase):
             self.assertTrue(path.exists())
         told = f"recorder-0 cannot start: {path} cannot be opened: unable to open database file\n"
         self.assertIn(told, said.getvalue())
+
+    async def test_no_recorder_that_finds_etcd_empty_advises_to_found_another_ledger(self) -> None:
+        other = recorder.Recorder(Memory())
+        self.addCleanup(other.state.close)
+        await other.catch_up()
+        words = {it.name: "" for it in dataclasses.fields(RecorderSettings) if it.default is dataclasses.MISSING}
+        for etcd, text in ((Memory(), "etcd has no ledger any more"), (other.etcd, "etcd has another ledger")):
+            with tempfile.TemporaryDirectory() as folder:
+                settings = RecorderSettings(**{**words, "name": "recorder-0", "state": f"{folder}/kept"})
+                kept = state.State.open(settings.state)
+                made = recorder.Recorder(Memory(), kept)
+                await made.catch_up()
+                self.assertTrue(await made.step(Batch(made.chain, [FOUNDED])))
+                kept.close()
+                etcd.aclose = mock.AsyncMock()
+                with contextlib.ExitStack() as stack:
+                    stack.enter_context(mock.patch.object(recording, "etcd_of", lambda _, etcd=etcd: etcd))
+                    stack.enter_context(mock.patch.object(recording.Service, "listen", mock.AsyncMock(return_value=1)))
+                    stack.enter_context(contextlib.redirect_stdout(io.StringIO()))
+                    said = stack.enter_context(contextlib.redirect_stderr(io.StringIO()))
+                    self.assertEqual(await asyncio.wait_for(recording.serve(settings), 60), 1)
+                more = f", or remove {settings.state}" if etcd is other.etcd else ""
+                advice = re.escape(f": restore it (network/OPERATING.md){more}\n")
+                self.assertRegex(said.getvalue(), f"(?m)^recorder-0 must stop: {text}.*{advice}\\Z")
 
     async def test_a_checkpoint_that_cannot_be_written_is_written_later(self) -> None:
         made, tries = recorder.Recorder(Memory()), list[int]()

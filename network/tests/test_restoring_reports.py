@@ -87,7 +87,20 @@ class Reports(unittest.IsolatedAsyncioTestCase):
             found, said = await self.restored(memory, NODES[:heard], end, {})
             few = f"nodes of {heard} shards have heard the snapshot and reported all that they have, and 3 are needed"
             self.assertEqual((found, few in said), (status, status == 1))
-        self.assertEqual((await self.restored(memory, [], end, dict.fromkeys(NODES, 300)))[0], 1)
+
+    async def test_if_more_than_f_shards_have_kept_only_later_entries_no_recorder_is_to_be_started(self) -> None:
+        memory, end = await self.begun(FOUNDED, registration("publisher", 1))
+        for heard, late in (([], NODES), (NODES[:2], NODES[2:]), (NODES[:1], NODES[3:]), ([], NODES[3:])):
+            texts = f"{', '.join(late)} have kept only later entries", "start the recorders", "publisher heard more"
+            for stranger in ({}, {"publisher": 10**9}):
+                found, said = await self.restored(memory, heard, end, dict.fromkeys(late, 300) | stranger)
+                wanted = [bool(late[1:]), not late[1:] and not stranger, not late[1:] and bool(stranger)]
+                self.assertEqual((found, [it in said for it in texts]), (1, wanted), said)
+                self.assertEqual("start no recorder, and restore a later snapshot" in said, wanted[0])
+        found, said = await self.restored(memory, NODES[:3], end, {NODES[3]: 300})
+        self.assertEqual((found, "later entries" in said), (0, False))
+        found, said = await self.restored(memory, [], end, dict.fromkeys(NODES, end.place))  # nothing is lacking there
+        self.assertEqual((found, "start no recorder" in said), (1, False))
 
     async def test_a_ledger_that_a_recorder_founded_over_an_empty_etcd_is_not_restored(self) -> None:
         memory = Memory()

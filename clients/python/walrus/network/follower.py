@@ -233,7 +233,7 @@ class View:
         """Applies new entries in order, and wakes tasks that waited for what they say. Nothing is saved until all are
         applied, so a process that ends meanwhile hears all of them again."""
         state = self.state
-        while not state.takes_more():  # nothing more is heard until the disk takes what was
+        while news.entries and not state.takes_more():  # no more are heard until the disk takes what was
             self.recorders.said = f"the disk does not take {state.name}"
             await asyncio.sleep(1)
         if (seconds := self.silence()) > AWAY:

@@ -166,11 +166,13 @@ class Founding:
         is how long new ones are valid, except those of authorities. Copies of an authority's certificate that differ
         from the one here are always replaced, as an earlier run may have been interrupted. Raises if an authority that
         is not named is not valid yet: by a slow clock nothing would seem to expire."""
-        for name in (AUTHORITY, ETCD_AUTHORITY):
-            text = certificates.early(certificates.read(path := self.folder / f"{name}.crt"))
-            if text and name not in named:
-                text += f"; if it was fast when this was made, renew it by name (walrus-net renew {self.folder} {name})"
-                raise Unfounded(f"{path} {text}")
+        paths = [self.folder / f"{it}.crt" for it in (AUTHORITY, ETCD_AUTHORITY)]
+        late = {it.stem: text for it in paths if (text := certificates.early(certificates.read(it)))}
+        if unnamed := [it for it in late if it not in named]:
+            text = (
+                f"{self.folder / unnamed[0]}.crt {late[unnamed[0]]}; if it was fast when this was made, renew by name "
+            )
+            raise Unfounded(f"{text}(walrus-net renew {self.folder} {' '.join(late)})")
         changed = []
         for name in (AUTHORITY, ETCD_AUTHORITY):
             path = self.folder / f"{name}.crt"

@@ -32,13 +32,14 @@ def shards_of(words: list[str]) -> list[str]:
 
 
 def arranged(now: Sequence[str], owners: Sequence[str]) -> list[str]:
-    """Returns these owners in an order in which each keeps as many of its shards as it can. What a shard holds stays
-    with its number, and a shard that moves is filled from the others: so only names and counts matter in a command."""
+    """Returns these owners in an order in which each keeps as many of its shards as it can; other shards go to
+    the remaining names in alphabetical order. What a shard holds stays with its number, and a shard that moves is
+    filled from the others: so only names and counts matter in a command."""
     left, kept = collections.Counter(owners), list[str]()
     for name in now:
         kept.append(name if left[name] else "")
         left[name] -= bool(left[name])
-    rest = left.elements()
+    rest = iter(sorted(left.elements()))
     return [name or next(rest) for name in kept]
 
 
@@ -99,7 +100,8 @@ async def hand_over(words: argparse.Namespace) -> int:
     """Prints which blobs end with the epoch, and hands over to the next committee; returns once its epoch has begun.
     With `--epoch` it may be repeated: it begins that epoch only, and does nothing if that has begun."""
     async with Network(words.folder, OPERATOR) as network:
-        ledger, epoch = network.ledger, words.epoch or network.ledger.epoch + 1
+        ledger = network.ledger
+        epoch = ledger.epoch + 1 if words.epoch is None else words.epoch  # which may be 0
         named, needed = shards_of(words.owners or list(ledger.now)), 3 * ledger.faults + 1
         if not ledger.now:
             raise Failure("there is no committee yet: walrus-net begin begins the first one", 1)
@@ -110,7 +112,8 @@ async def hand_over(words: argparse.Namespace) -> int:
         if epoch <= ledger.epoch:
             return has_begun(ledger, epoch, named, words.json)
         owners = arranged(ledger.writing, named)
-        await must_answer(network, named, ledger.faults, words.force)
+        if owners != [*ledger.next]:  # otherwise this handover is under way, whoever does not answer now
+            await must_answer(network, named, ledger.faults, words.force)
         if sorted(owners) != sorted(ledger.now) and not words.concentrated:
             must_be_equal(network, owners, ledger.faults)
         ended = [it.hex() for it in ledger.blobs.ending(b"", epoch, len(ledger.blobs))]
@@ -122,8 +125,9 @@ async def hand_over(words: argparse.Namespace) -> int:
         await network.begin(ledger.faults, owners, epoch)  # not a later one, if another command began this
         if not await network.until(lambda it: it.epoch >= epoch, words.seconds):
             cause = network.away_since(begun) or "look at its nodes' logs"
-            text = f"epoch {epoch} has not begun after {words.seconds:g} s: {cause}. The handover goes on; wait for it"
-            raise Failure(f"{text} with --epoch {epoch}, as this command would later begin epoch {epoch + 1}", 1)
+            text = f"epoch {epoch} has not begun after {words.seconds:g} s: {cause}. The handover goes on; "
+            later = f"wait for it with --epoch {epoch}, as this command would later begin epoch {epoch + 1}"
+            raise Failure(text + (later if words.epoch is None else "wait for it with the same command"), 1)
         told = {"epoch": epoch, "nodes": owners, "ended": ended}
         text = f"epoch {epoch} has begun" + (SNAPSHOT if leave else "")
         print(json.dumps(told) if words.json else text)

@@ -30,10 +30,12 @@ def add_words(add: Add) -> None:
     told |= {"stale": (Options.stale, "seconds without the ledger until the gateway answers 503")} | exposure.WORDS
     port = {"host": ("127.0.0.1", "the gateway's address"), "port": (GATEWAY_PORT, "the gateway's port")}
     hands = {"seconds": (600.0, "how long to wait until the epoch has begun"), "yes": (False, "begin without asking")}
-    hands |= {"epoch": (0, "begin only this epoch, and do nothing if it has begun; otherwise the next one")}
     hands |= {"force": (False, "begin even if nodes of up to f shards do not answer")}
     sure = {"yes": (False, "expel without asking")}
-    add("handover", "begin an epoch of NODE or NODE*SHARDS, or as now", "folder", "owners*", **hands, **heavy, **plain)
+    text = "begin an epoch of NODE or NODE*SHARDS, or as now"
+    sub = add("handover", text, "folder", "owners*", **hands, **heavy, **plain)
+    text = "begin only this epoch, and do nothing if it has begun; by default, begin the next one"
+    sub.add_argument("--epoch", type=int, help=text)
     add("begin", "begin the first epoch of a network that was founded", "folder", **plain)
     since = {"since": ("", "when this epoch began, such as 2026-11-29T12:00; now, if it is left out")}
     add("calendar", "plan how long an epoch is, such as 14d, or off", "folder", "length", **since, **plain)

@@ -126,7 +126,7 @@ class Recorder:
 
     async def step(self, batch: Optional[Batch] = None) -> bool:
         """Appends a batch if the ledger in etcd ends here, or else reads on; returns whether it ended here."""
-        if not self.state.takes_more():
+        if not self.state.takes_more() and (batch or await self.etcd.head() != self.head(self.chain)):
             raise Failed(f"the disk does not take {self.state.name}: {self.state.fault}")
         begun, known = time.monotonic(), self.head(self.chain)
         wanted, self.own = (self.head(batch.after), batch.last) if batch else (known, 0)

@@ -216,7 +216,9 @@ async def serve(settings: RecorderSettings) -> int:
             task.result()
         return 0
     except (Broken, OSError, sqlite3.Error) as fault:
-        told = f": restore it (network/OPERATING.md), or remove {settings.state}" if isinstance(fault, Broken) else ""
+        told = ": restore it (network/OPERATING.md)" if isinstance(fault, Broken) else ""
+        if told and "no ledger any more" not in str(fault):  # without its state it would found another ledger there
+            told += f", or remove {settings.state}"
         if type(fault) is sqlite3.DatabaseError:
             told = f": {settings.state} is torn: start the recorder again, and it makes a new one"
         print(f"{settings.name} must stop: {fault}{told}", file=sys.stderr, flush=True)

@@ -21,6 +21,10 @@ OTHER = "etcd has other entries up to place {} than the nodes have heard, as a r
 OTHER += "stop all recorders, and restore the snapshot at all members of etcd once more (network/OPERATING.md)"
 FEW = "nodes of {} shards have heard the snapshot and reported all that they have, and {} are needed: start the others "
 FEW += "and restore again; if they are lost, start the recorders, and what only they had is lost (network/OPERATING.md)"
+OLD = (
+    "{} have kept only later entries, so the ledger had more than this snapshot has: start no recorder, and restore a "
+)
+OLD += "later snapshot (network/OPERATING.md)"
 STRANGE = "{} heard more than the snapshot has, but had no shards in it, so nothing of that is believed: "
 STRANGE += "restore a later snapshot, or start the nodes that had shards then and restore again (network/OPERATING.md)"
 UNBELIEVED = (
@@ -89,6 +93,11 @@ class Restoring(Service):
     def unbelieved(self) -> list[str]:
         """Returns the names that have heard more, but have no shards up to the ledger's end."""
         return sorted((self.strangers | {*self.short}) - {*self.recorder.ledger.nodes})
+
+    def later(self) -> list[str]:
+        """Returns the nodes that have kept only entries after the next one."""
+        place, names = self.recorder.chain.place, {*self.recorder.ledger.nodes} - {*self.tails}
+        return sorted(name for name in names if self.short.get(name, 0) > place)
 
     def reported(self) -> int:
         """Returns the number of shards whose nodes have heard all of the snapshot, and reported their tails."""
@@ -177,7 +186,9 @@ async def serve(settings: RecorderSettings, seconds: float) -> int:
                 first = service.short.get(name)
                 print(f"{name} {f'has kept nothing before place {first}' if first else 'was silent at the end'}")
         print(f"{count or 0} entries are back; the ledger ends at place {recorder.chain.place}", flush=True)
-        if not count and (strangers := service.unbelieved()):
+        if not service.is_all() and service.enough(later := service.later()):
+            print(OLD.format(", ".join(later)), file=sys.stderr)
+        elif not count and (strangers := service.unbelieved()):
             print((UNBELIEVED if service.is_all() else STRANGE).format(", ".join(strangers)), file=sys.stderr)
         elif not service.is_all():
             print(FEW.format(service.reported(), recorder.ledger.quorum), file=sys.stderr)
