@@ -125,6 +125,30 @@ class Caches(unittest.IsolatedAsyncioTestCase):
         self.gate.set()
         self.assertEqual(await asyncio.gather(*tasks), [it * 1_000 for it in (b"1", b"2", b"3", b"4")])
 
+    async def test_a_blob_that_is_dropped_as_soon_as_it_was_read_leaves_its_room(self) -> None:
+        """Nobody wants it any more, and a request for another one comes before the cache hears of the read's end."""
+        loop, faults, self.cache.room = asyncio.get_running_loop(), mock.Mock(), PIECE + EXTRA
+        loop.set_exception_handler(faults)
+
+        def drop() -> None:
+            self.cache.freed.clear()
+            self.assertTrue(self.cache.make_room())
+
+        async def read(identifier: bytes, size: int) -> bytes:
+            await self.gate.wait()
+            loop.call_soon(drop)
+            return b"blob"
+
+        self.gate.clear()
+        with mock.patch.object(self.cache, "read", read):
+            wanting = asyncio.create_task(self.want(b"a"))
+            await asyncio.sleep(0.01)
+            wanting.cancel()
+            self.gate.set()
+            await asyncio.sleep(0.05)
+        self.assertEqual((faults.mock_calls, self.cache.size, len(self.cache.entries)), ([], 0, 0))
+        self.assertTrue(self.cache.freed.is_set())
+
     async def test_what_is_used_stays(self) -> None:
         async with self.cache.use(b"used") as blob:
             for it in range(4_000):
@@ -171,21 +195,22 @@ class Ahead(unittest.IsolatedAsyncioTestCase):
 
 
 class Disk:
-    """A disk of 100 MB. `room` is what is free on it without the blobs in a cache; of that, 5 MB are the reserve."""
+    """A disk of `size` bytes. `room` is what is free on it without the blobs in a cache."""
 
-    def __init__(self, reader: Reader, room: int):
-        self.reader, self.room = reader, room
+    def __init__(self, reader: Reader, size: int, room: int):
+        self.reader, self.size, self.room = reader, size, room
 
     def free(self) -> int:
         tasks = [it.task for it in self.reader.cache.entries.values() if it.task.done() and not it.task.exception()]
         return self.room - sum(len(it.result()) for it in tasks if is_away(it.result()))
 
     def statvfs(self, place: object) -> mock.Mock:
-        return mock.Mock(f_frsize=1, f_blocks=100_000_000, f_bavail=self.free())
+        return mock.Mock(f_frsize=1, f_blocks=self.size, f_bavail=self.free())
 
 
 class Short(unittest.IsolatedAsyncioTestCase):
-    """A reader of blobs of 1 MB, or of 9 bytes if they begin with a zero, over a disk of which 20 MB are free."""
+    """A reader of blobs of 1 MB, or of 9 bytes if they begin with a zero, over a disk of 100 MB. Of these 20 MB are
+    free, and 5 MB are the reserve."""
 
     async def asyncSetUp(self) -> None:
         self.network = mock.Mock(fetch=self.fetch)
@@ -193,7 +218,7 @@ class Short(unittest.IsolatedAsyncioTestCase):
         self.addCleanup(self.network.walrus.pool.shutdown)
         self.reader = Reader(self.network, Options())
         self.addAsyncCleanup(self.reader.close)
-        self.disk = Disk(self.reader, 20_000_000)
+        self.disk = Disk(self.reader, 100_000_000, 20_000_000)
         self.enterContext(mock.patch.object(os, "statvfs", self.disk.statvfs))
 
     async def fetch(self, name: bytes, *_: object) -> bytes:
@@ -235,6 +260,22 @@ class Short(unittest.IsolatedAsyncioTestCase):
         self.disk.room = 20_000_000
         await self.want(9)
         self.assertEqual((self.kept(), self.reader.is_short), ([0, 1, 7, 9], False))
+
+    async def test_a_large_disk_is_short_only_if_less_than_the_reserve_and_the_room_of_the_cache_is_free(self) -> None:
+        room = self.reader.options.room
+        self.disk.size, self.disk.room = 10**12, 5 * 10**10 + room + 5_000_000
+        for number in range(1, 6):
+            await self.want(number)
+        await self.reader.make_room()
+        self.assertEqual((self.kept(), self.reader.is_short), ([1, 2, 3, 4, 5], False))
+        with mock.patch.multiple(self.reader, stands=mock.Mock(return_value=True), must_stand=mock.Mock()):
+            self.reader.read_ahead([(bytes([6] * 32), 1_000_000, 0, 1_000_000)])
+            self.assertEqual(len(self.reader.ahead), 1)
+            await asyncio.wait(self.reader.ahead)
+        self.assertEqual((self.kept(), self.reader.is_short), ([2, 3, 4, 5, 6], False))
+        self.disk.room -= 6_000_000
+        await self.reader.make_room()
+        self.assertEqual((self.kept(), self.reader.is_short), ([], True))
 
     async def test_a_blob_for_which_there_is_no_room_is_refused_in_words(self) -> None:
         full = OSError(28, "No space left on device")

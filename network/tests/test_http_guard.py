@@ -12,6 +12,7 @@ from unittest import mock
 
 import aiohttp
 from guard_case import EVIL, GuardCase, other_address
+from walrus.network import access
 from walrus.network.limits import is_inner
 from walrus.network.certificates import make_authority
 from walrus.network.local import make_certificate
@@ -214,12 +215,40 @@ class Logs(GuardCase):
             await ask(5, 2)
             await ask(6, 2)
         await ask(7, 2, "access.log")
+        with mock.patch.object(logging.StreamHandler, "flush", side_effect=full):
+            with mock.patch.object(said, "write", side_effect=full):  # standard error is on the same disk
+                await ask(8, 2)
+                await ask(9, 2)
+        await ask(10, 2, "access.log")
         writer.close()
         self.assertNotIn("?2 ", (folder / "access.log").read_text())
         lines = said.getvalue().splitlines()
         self.assertEqual([line.partition(": ")[0] for line in lines], ["the access log lacks lines from here on"] * 2)
         self.assertIn("No such file or directory", lines[0])
         self.assertIn("No space left on device", lines[1])
+
+    async def test_a_log_whose_old_file_cannot_be_closed_goes_on_in_the_new_one(self) -> None:
+        path, said = self.folder / "a.log", self.enterContext(contextlib.redirect_stderr(io.StringIO()))
+        log = access.log_to(str(path))
+        assert log
+        [handler] = log.handlers
+        self.addCleanup(handler.close)
+        log.info("1")
+        path.rename(self.folder / "a.log.1")
+        stream = handler.stream  # type: ignore[attr-defined]
+        close = stream.close
+
+        def closing() -> None:
+            close()
+            raise OSError(122, "Disk quota exceeded")
+
+        with mock.patch.object(stream, "close", closing):
+            for line in "234":
+                log.info(line)
+        self.assertEqual((self.folder / "a.log.1").read_text(), "1\n")
+        self.assertEqual(path.read_text(), "3\n4\n")
+        self.assertEqual(said.getvalue().count("\n"), 1)
+        self.assertIn("Disk quota exceeded", said.getvalue())
 
     async def test_tls(self) -> None:
         make_authority(self.folder / "authority-web")

@@ -1,11 +1,14 @@
 """What walrus-net stores from a pipe, which may pause, and what of it is in memory."""
 import asyncio
+import contextlib
 import json
 import os
+import socket
+import struct
 import threading
 import time
 import unittest
-from typing import Any, Union
+from typing import IO, Any, Union
 from unittest import mock
 
 import aiohttp
@@ -14,7 +17,7 @@ from harness import HERE
 from http_case import GatewayCase
 from transfer_case import DRAWN, TransferCase
 from upload_case import UploadCase
-from walrus.network import piped, reading, resuming
+from walrus.network import piped, pieces, reading, resuming, unfinished
 from walrus.network.chunks import MARK, PIECE
 from walrus.network.transfers import Failure
 
@@ -48,21 +51,30 @@ class Pauses(UploadCase):
         inner, outer = os.pipe()
 
         def write() -> None:
-            with open(outer, "wb", buffering=0) as out:
+            with contextlib.suppress(BrokenPipeError), open(outer, "wb", buffering=0) as out:
                 for part in parts:
                     out.write(part) if isinstance(part, bytes) else time.sleep(part)
 
-        writer, named = threading.Thread(target=write), Named()
+        writer = threading.Thread(target=write)
         writer.start()
         self.addCleanup(writer.join)
-        with open(inner, "rb", buffering=0) as source, open(self.folder / "kept", "w+b", buffering=0) as kept:
+        with open(inner, "rb", buffering=0) as source:
+            return await self.put_from(source, b"".join(part for part in parts if isinstance(part, bytes)))
+
+    async def put_from(self, source: IO[bytes], data: bytes) -> Any:
+        """Stores what comes from `source`, and expects that it is `data`."""
+        named = Named()
+        with piped.keeping() as kept:
             async with aiohttp.ClientSession(self.url) as session:
-                sending = piped.Piped(session, source, kept, named, mock.Mock(size=0))  # type: ignore[arg-type]
-                told = await sending.send_all(5)
-                await sending.name(sending.end)
-        self.assertEqual(named.data, b"".join(part for part in parts if isinstance(part, bytes)))
-        self.assertLessEqual((self.folder / "kept").stat().st_size, 2_500 + 300)
+                self.sending = piped.Piped(session, source, kept, named, mock.Mock(size=0))  # type: ignore[arg-type]
+                told = await self.sending.send_all(5)
+                await self.sending.name(self.sending.end)
+            self.assertLessEqual(os.fstat(kept.fileno()).st_size, 2_500 + 300)
+        self.assertEqual(named.data, data)
         return told["blobId"]
+
+    def uploads(self) -> list[str]:
+        return [it.name for it in self.folder.glob("tokens.uploads/*")]
 
     async def test_it_may_pause_before_it_begins_in_its_midst_and_at_its_end(self) -> None:
         await self.start()
@@ -98,15 +110,86 @@ class Pauses(UploadCase):
         with mock.patch.object(resuming, "TRIES", 2):
             with self.assertRaisesRegex(Failure, "it broke off 2 times .*; store it again"):
                 await self.put_piped(os.urandom(5_000))
-        self.assertEqual([*(self.folder / "tokens.uploads").iterdir()], [])
+        self.assertEqual(self.uploads(), [])
         self.away = ""
         task = asyncio.create_task(self.put_piped(os.urandom(2_000), 1.0))
         async with asyncio.timeout(60):
-            while not [*(self.folder / "tokens.uploads").iterdir()]:
+            while not self.uploads():
                 await asyncio.sleep(0.01)
         task.cancel()
         await asyncio.gather(task, return_exceptions=True)
-        self.assertEqual([*(self.folder / "tokens.uploads").iterdir()], [])
+        self.assertEqual(self.uploads(), [])
+
+    async def test_what_comes_from_a_connection_that_is_reset_is_not_stored(self) -> None:
+        """The error is reported once. A read after it returns nothing, as at the end."""
+        await self.start()
+        for quiet in (60.0, 0.05):  # with a request under way, and with none
+            with mock.patch.object(piped, "QUIET", quiet), mock.patch.object(reading, "SILENCE", 60.0):
+                with socket.create_server(("127.0.0.1", 0)) as server:
+                    outer = socket.create_connection(server.getsockname())
+                    inner, _ = server.accept()
+                with inner, outer, inner.makefile("rb", buffering=0) as source:
+                    task = asyncio.create_task(self.put_from(source, b""))
+                    outer.sendall(os.urandom(2_100))
+                    async with asyncio.timeout(60):
+                        while not self.uploads():
+                            await asyncio.sleep(0.01)
+                        await self.comes(self.uploads()[0], 2_100)
+                    await asyncio.sleep(0.3)
+                    self.assertFalse(task.done())
+                    outer.setsockopt(socket.SOL_SOCKET, socket.SO_LINGER, struct.pack("ii", 1, 0))
+                    outer.close()
+                    with self.assertRaisesRegex(Failure, "cannot be read any more: .*reset by peer; store it again"):
+                        await task
+                    with self.assertRaisesRegex(Failure, "cannot be read any more: .*reset by peer"):
+                        await self.sending.fill()  # even if aiohttp has lost the first one
+                self.assertEqual(self.uploads(), [])
+
+    async def test_a_gateway_that_calls_a_part_of_it_stored_is_not_believed(self) -> None:
+        await self.start()
+        look, data, lie = resuming.Sending.look, os.urandom(7_000), {"blobId": "00"}
+
+        async def lying(sending: resuming.Sending, place: str) -> Any:
+            state = await look(sending, place)
+            return state and {**state, "complete": state["offset"] > 0, "file": lie}
+
+        self.away = "the nodes are away"
+        with mock.patch.object(resuming.Sending, "look", lying):
+            with self.assertRaisesRegex(Failure, "before all of it was sent: this gateway lies"):
+                await self.put_piped(data[:1_700], 3.0, data[1_700:])
+        with mock.patch.object(unfinished, "OF_ONE", 0), mock.patch.object(piped, "put", return_value=lie):
+            with self.assertRaisesRegex(Failure, "before all of it was sent: this gateway lies"):
+                await self.put_piped(data)
+
+    async def test_a_gateway_without_a_place_for_its_upload_has_one_for_a_put(self) -> None:
+        await self.start()
+        self.assertEqual((await self.begin())[0], 201)
+        for name, status in (("OF_ONE", 429), ("ALL", 503)):
+            data = os.urandom(5_000)
+            with mock.patch.object(unfinished, name, 1):
+                self.assertEqual((await self.begin())[0], status)
+                await self.put_piped(data[:1_400], 0.1, data[1_400:])
+            self.assertTrue(self.stored.pop() == data)
+            self.assertEqual((self.stored, len(self.uploads())), ([], 1))
+
+    async def test_without_a_disk_for_temporary_files_it_is_kept_in_memory(self) -> None:
+        await self.start()
+        data, fault = os.urandom(5_000), FileNotFoundError(2, "No usable temporary directory found")
+        with mock.patch.object(piped, "tempfile", mock.Mock(**{"TemporaryFile.side_effect": fault})):
+            self.assertEqual(await self.put_piped(data[:1_700], PAUSE, data[1_700:]), self.name_of(data))
+
+    async def test_a_disk_that_is_full_is_not_taken_for_a_break_of_the_connection(self) -> None:
+        await self.start()
+
+        def write(file: IO[bytes], data: memoryview) -> None:
+            if file.tell() + len(data) > 1_500:
+                raise OSError(28, "No space left on device")
+            pieces.write(file, data)
+
+        with mock.patch.object(piped, "write", write):
+            with self.assertRaisesRegex(Failure, "cannot be kept .* No space left on device; name a folder .* TMPDIR"):
+                await self.put_piped(os.urandom(5_000))
+        self.assertEqual(self.uploads(), [])
 
 
 class Memory(TransferCase):
@@ -135,6 +218,17 @@ class Memory(TransferCase):
             self.assertTrue(self.sent + self.bodies.pop() == data)
         self.assertEqual(self.paths, ["/v1/blobs", "/v1/uploads/1"])
         self.assertLess(peaks[1] - peaks[0], 3 * PIECE)
+
+    async def test_a_file_or_folder_of_the_name_of_standard_input_is_not_stored_in_its_place(self) -> None:
+        self.named, place = (await self.id(b"x")).hex(), self.folder / "here" / "-"
+        place.parent.mkdir()
+        with contextlib.chdir(place.parent):
+            place.write_bytes(b"old")
+            await self.run_net("store", "-", "--epochs", "1", data=b"x")
+            place.unlink()
+            place.mkdir()
+            await self.run_net("store", "-", "--epochs", "1", data=b"x")
+        self.assertEqual(self.bodies, [b"x"] * 2)
 
 
 class Story(GatewayCase):

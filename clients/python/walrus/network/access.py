@@ -1,4 +1,5 @@
 """The access log: a line for each request in the Common Log Format, with the name of its token."""
+import contextlib
 import datetime
 import logging
 import logging.handlers
@@ -41,11 +42,12 @@ class LogFile(logging.handlers.WatchedFileHandler):
         self.cause = ""
         try:
             super().emit(record)
-        except OSError as fault:  # it cannot be opened again
-            self.cause = str(fault)
-        if self.cause not in ("", self.said):
-            print(f"the access log lacks lines from here on: {self.cause}", file=sys.stderr, flush=True)
-        self.said = self.cause
+        except OSError as fault:  # the old file cannot be closed, or the new one not be opened
+            self.cause, self.stream = str(fault), None  # type: ignore[assignment]
+        last, self.said = self.said, self.cause
+        if self.cause not in ("", last):
+            with contextlib.suppress(OSError, ValueError):  # standard error may be on the same full disk
+                print(f"the access log lacks lines from here on: {self.cause}", file=sys.stderr, flush=True)
 
     def handleError(self, record: logging.LogRecord) -> None:
         """Notes why a line could not be written, as on a full disk; the base class would print a traceback."""

@@ -4,6 +4,7 @@ import asyncio
 import collections
 import contextlib
 import dataclasses
+import functools
 from typing import AsyncIterator, Awaitable, Callable
 
 from .. import client
@@ -69,7 +70,7 @@ class Cache:
         elif self.make_room():
             entry = self.entries[identifier] = Entry(asyncio.create_task(self.load(identifier, size)))
             self.size += entry.size
-            entry.task.add_done_callback(lambda task: self.loaded(identifier, task))
+            entry.task.add_done_callback(functools.partial(self.loaded, identifier, entry))
         return entry
 
     def make_room(self) -> bool:
@@ -100,15 +101,17 @@ class Cache:
                 told = afresh(fault)
         raise told
 
-    def loaded(self, identifier: bytes, task: "asyncio.Task[bytes]") -> None:
-        entry, fault = self.entries[identifier], None if task.cancelled() else task.exception()
+    def loaded(self, identifier: bytes, entry: Entry, task: "asyncio.Task[bytes]") -> None:
+        self.freed.set()
+        fault = None if task.cancelled() else task.exception()
+        if self.entries.get(identifier) is not entry:  # it was dropped as soon as the task had ended
+            return
         self.size -= entry.size
         if task.cancelled() or fault and not isinstance(fault, LASTING):
             del self.entries[identifier]
         else:  # it was read, or has a fault that stays
             entry.size = EXTRA + (0 if fault else cost_of(task.result()))
             self.size += entry.size
-        self.freed.set()
 
     async def close(self) -> None:
         for entry in self.entries.values():

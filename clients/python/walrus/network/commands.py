@@ -103,6 +103,7 @@ async def remotely(words: argparse.Namespace, session: aiohttp.ClientSession) ->
             text = "\n".join([tell_blob(told), *members])
         elif words.command == "store":
             way = store_folder if os.path.isdir(path) else store if os.path.isfile(path) else store_piped
+            way = store_piped if path == "-" else way  # a file of that name is ./-
             told = {"file": path, **await way(session, path, words.epochs)}
             text = f"{tell_blob(told)} {path}"
         elif words.command == "status":

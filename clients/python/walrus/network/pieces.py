@@ -37,11 +37,12 @@ def write(file: IO[bytes], data: memoryview) -> None:
         data = data[file.write(data) :]  # noqa: E203
 
 
-def lack_at(place: Union[int, str, pathlib.Path], size: int, reserve: float) -> float:
-    """Returns the bytes that a disk lacks for `size` more ones if `reserve`, a part of it, stays free; 0 or less if
-    none."""
+def lack_at(place: Union[int, str, pathlib.Path], size: int, reserve: float, beside: int = 0) -> float:
+    """Returns the bytes that a disk lacks for `size` more ones if `reserve`, a part of it, stays free, and as much
+    again, but at most `beside` bytes; 0 or less if none."""
     disk = os.statvfs(place)
-    return reserve * disk.f_blocks * disk.f_frsize + size - disk.f_bavail * disk.f_frsize
+    kept = reserve * disk.f_blocks * disk.f_frsize
+    return kept + min(kept, beside) + size - disk.f_bavail * disk.f_frsize
 
 
 def must_fit(place: Union[int, pathlib.Path], size: int, reserve: float, full: str) -> None:

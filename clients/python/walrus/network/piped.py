@@ -3,7 +3,7 @@ import asyncio
 import contextlib
 import os
 import tempfile
-from typing import IO, Any, AsyncIterator
+from typing import IO, Any, AsyncIterator, Optional
 
 import aiohttp
 
@@ -22,7 +22,7 @@ async def store_piped(session: aiohttp.ClientSession, path: str, epochs: int) ->
     """Stores what a pipe, a device or standard input (`-`) brings; more than a piece as a resumable upload. Returns the
     gateway's answer, and raises `Failure` if it names another identifier than the one computed here."""
     naming = await naming_of(session)
-    with open(0 if path == "-" else path, "rb", buffering=0) as source, tempfile.TemporaryFile(buffering=0) as kept:
+    with open(0 if path == "-" else path, "rb", buffering=0) as source, keeping() as kept:
         with Bar(os.path.basename(path), os.fstat(source.fileno()).st_size) as bar:
             piped = Piped(session, source, kept, naming, bar)
             told = await piped.send_all(epochs)
@@ -41,9 +41,10 @@ class Piped(Sending):
         super().__init__(session, file, naming, bar)
         self.source, self.ahead = source.fileno(), bytearray()  # what was read, and is not in `file` yet
         self.end, self.is_over, self.turn = 0, False, asyncio.Lock()
+        self.fault: Optional[Failure] = None  # why nothing can be read any more
 
     async def send_all(self, epochs: int) -> Any:
-        """Sends all that comes, and returns the gateway's answer."""
+        """Sends all that comes, and returns the gateway's answer. Raises `Failure` if it comes too early."""
         while self.end <= PIECE and not self.is_over:
             await self.fill()
             await self.take()
@@ -54,7 +55,11 @@ class Piped(Sending):
         except BaseException:
             await self.give_up()
             raise
-        return told if self.place else await put(self.session, self.all_parts(), epochs)  # an older gateway
+        if not self.place:  # an older gateway, or one without a place
+            told = await put(self.session, self.all_parts(), epochs)
+        if self.ahead or not self.is_over:
+            raise Failure("the gateway reports it as stored before all of it was sent: this gateway lies", 1)
+        return told
 
     async def give_up(self) -> None:
         """Ends the upload, which nobody can continue, as long as the gateway answers soon."""
@@ -65,19 +70,30 @@ class Piped(Sending):
                         pass
 
     async def fill(self) -> None:
-        """Reads until there is a whole part, or the input is over."""
+        """Reads until there is a whole part, or the input is over. After a read that failed none is tried, as a socket
+        that was reset then reads as if it were over."""
         async with self.turn:  # a request that broke off may still be here
             while len(self.ahead) < PART and not self.is_over:
+                if self.fault:
+                    raise self.fault
                 await readable(self.source)
-                data = os.read(self.source, PART - len(self.ahead))
+                try:
+                    data = os.read(self.source, PART - len(self.ahead))
+                except OSError as fault:
+                    self.fault = Failure(f"the input cannot be read any more: {fault}; {self.advice}", 1)
+                    continue
                 self.ahead += data
                 self.is_over = not data
 
     async def take(self) -> bytes:
         """Moves what was read to `file` and into the identifier, and returns it."""
         part = bytes(self.ahead)
-        self.file.seek(self.end - self.start)
-        write(self.file, memoryview(part))
+        try:
+            self.file.seek(self.end - self.start)
+            write(self.file, memoryview(part))
+        except OSError as fault:  # and not as a break of the connection, which aiohttp would make of it
+            said = f"the input cannot be kept until the gateway has it: {fault}"
+            raise Failure(f"{said}; name a folder with more room in TMPDIR, and {self.advice}", 1) from None
         self.ahead.clear()
         self.end += len(part)
         await self.name(self.end)
@@ -129,6 +145,14 @@ class Piped(Sending):
             part = await self.take()
             yield part
             self.bar.add(len(part))
+
+
+def keeping() -> IO[bytes]:
+    """Returns a file without a name; it is in memory if no disk has room for it."""
+    try:
+        return tempfile.TemporaryFile(buffering=0)
+    except OSError:
+        return open(os.memfd_create("walrus"), "w+b", buffering=0)
 
 
 async def readable(source: int) -> None:

@@ -90,9 +90,9 @@ class Reader:
             raise Problem(503, f"the gateway cannot put what is read on its disk ({fault}): try again later") from None
 
     async def make_room(self, size: int = 0) -> None:
-        """Drops cached blobs that nobody uses if `size` more bytes would leave less than twice `reserve` of the disk
-        free: so uploads find room there, and so do nodes and etcd, which may share it."""
-        words = lack_at, tempfile.gettempdir(), size, 2 * self.options.reserve
+        """Drops cached blobs that nobody uses if `size` more bytes would not leave `reserve` of the disk free, and as
+        much again, but at most `room`: so uploads find room there, and so do nodes and etcd, which may share it."""
+        words = lack_at, tempfile.gettempdir(), size, self.options.reserve, self.options.room
         lack = await asyncio.get_running_loop().run_in_executor(self.network.walrus.pool, *words)
         self.is_short = not self.cache.give_way(lack)
 

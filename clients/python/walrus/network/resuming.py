@@ -119,7 +119,7 @@ class Sending:
 
     async def place_of(self, known: Optional[Known], epochs: int) -> str:
         """Returns the URL of an earlier upload of this file that is kept for long enough, or else of a new one. It is
-        empty if the gateway has no resumable uploads."""
+        empty if the gateway has no resumable uploads, or no place for that of a pipe: PUT has more of them."""
         if known and (place := known.find()):
             state, epoch = await self.look(place), (await ask(self.session, "GET", "/v1/status"))["epoch"]
             if state and state["endEpoch"] >= epoch + epochs:
@@ -127,7 +127,7 @@ class Sending:
         headers = {"Upload-Complete": "?0"} | ({"Upload-Length": str(self.end)} if known else {})
         words: dict[str, Any] = {"params": {"epochs": epochs}, "headers": headers}
         async with self.session.post("/v1/uploads", **words) as said:
-            if said.status in (404, 405):
+            if said.status in (404, 405) or not known and said.status in (429, 503):
                 return ""
             await check(said)
             place = said.headers.get("Location", "")
