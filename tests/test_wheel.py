@@ -94,7 +94,8 @@ class Wheel(Environment):
     def test_what_the_network_lacks_is_told(self) -> None:
         ran = subprocess.run([self.python.with_name("walrus-net"), "status"], capture_output=True, text=True, cwd="/")
         self.assertEqual((ran.returncode, ran.stdout), (1, ""))
-        self.assertRegex(ran.stderr, r"^walrus-net: (aiohttp|cryptography) is not here, .* or pip install \1\n$")
+        lacks = r"^walrus-net: (aiohttp|cryptography), which the network needs, is not installed: "
+        self.assertRegex(ran.stderr, lacks + r".* or pip install \1\n$")
 
     @needs_program
     def test_calls(self) -> None:
