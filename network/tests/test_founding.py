@@ -258,7 +258,7 @@ class Changed(FoundingCase):
         before = {path: path.read_bytes() for path in self.folder.rglob("*.crt")}
         for named, late in (([], "authority"), (["alpha"], "authority"), (["authority"], "etcd-authority")):
             text = f"/{late}.crt is not valid before .* UTC: set the clock here if it is slow; "
-            text += "if it was fast .*/net authority etcd-authority\\)$"  # both, as they are always made together
+            text += "if it was fast .*/net authority etcd-authority\\), and then .*$"  # both are always made together
             with self.subTest(named=named), self.assertRaisesRegex(Unfounded, text):
                 await self.says("renew", self.folder, *named)
             self.assertEqual({path: path.read_bytes() for path in before}, before)

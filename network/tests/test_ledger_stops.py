@@ -249,7 +249,7 @@ class Stops(GatewayCase):
         await self.local.start_etcd()
         await self.local.start_recorder("recorder-0")  # which stops too, as it would otherwise serve the older ledger
         self.assertEqual(await asyncio.wait_for(self.local.processes["recorder-0"].wait(), 30), 1)
-        said = "must stop: etcd has another ledger than before, or an older one: .*: restore it .*, or remove .*ledger$"
+        said = "must stop: etcd has another ledger than before, or an older one: .*: restore it .*; remove .*ledger "
         self.assertRegex(self.log("recorder-0").splitlines()[-1], said)
         (self.folder / "recorder-0.ledger").unlink()
         await self.local.start_recorder("recorder-0")

@@ -10,7 +10,7 @@ from unittest import mock
 
 import harness  # noqa: F401  # which says where walrus is
 from walrus import client, frames, port, wire
-from walrus.network import chunks, peers
+from walrus.network import chunks, groups, peers, uploads
 from wire_case import Taken
 
 
@@ -114,24 +114,50 @@ class Cancelled(unittest.IsolatedAsyncioTestCase):
                 pass
         self.assertEqual((node.ended, seat.idle, seat.fault), (True, [], ""))
 
-    async def test_of_a_store_that_failed_nothing_is_in_memory(self) -> None:
-        """An error that leads to its task by the frame of who waited is a cycle, which Python finds late."""
-        seen, network = list["weakref.ref[Counted]"](), mock.Mock(ledger=mock.Mock(writing_epoch=0))
 
-        async def fail(blob: bytes, until: int) -> None:
-            seen.append(weakref.ref(encoded := Counted(blob)))
-            raise client.Failed(f"{len(encoded)} bytes are not certified", {})
+class Failing(unittest.IsolatedAsyncioTestCase):
+    """Of what failed nothing is in memory. An error that leads to its task by the frame of who waited is a cycle, which
+    Python finds late."""
 
+    def setUp(self) -> None:
+        self.seen = list["weakref.ref[Counted]"]()
+        gc.disable()
+        self.addCleanup(gc.enable)
+
+    async def store(self, blob: bytes = b"blob", until: int = 0) -> None:
+        self.seen.append(weakref.ref(encoded := Counted(blob)))
+        await asyncio.sleep(0)
+        raise client.Failed(f"{len(encoded)} bytes are not certified", {})
+
+    async def all_gone(self, count: int) -> None:
+        await asyncio.sleep(0)  # the loop has the step that raised
+        self.assertEqual([it() for it in self.seen], [None] * count)
+
+    async def test_a_store(self) -> None:
         async def stream() -> AsyncIterator[bytes]:
             yield b"blob"
 
-        gc.disable()
-        self.addCleanup(gc.enable)
-        writer = chunks.Writer(network, mock.Mock(), 1)
-        with mock.patch.object(writer, "store_blob", fail), contextlib.suppress(client.Failed):
+        writer = chunks.Writer(mock.Mock(ledger=mock.Mock(writing_epoch=0)), mock.Mock(), 1)
+        with mock.patch.object(writer, "store_blob", self.store), contextlib.suppress(client.Failed):
             await writer.store(stream(), 1)
-        await asyncio.sleep(0)  # the loop has the step that raised
-        self.assertEqual([it() for it in seen], [None])
+        await self.all_gone(1)
+
+    async def test_an_upload_of_two_pieces(self) -> None:
+        async def stream() -> AsyncIterator[bytes]:
+            yield b"blobblob"
+
+        made = uploads.Uploads.__new__(uploads.Uploads)
+        made.publisher = mock.Mock(writer=mock.Mock(store_blob=self.store))
+        upload = mock.Mock(whole=lambda: [], room=lambda: 4, piece=lambda number: b"blob", about={"until": 1})
+        upload.add = mock.AsyncMock(side_effect=[0, 1])
+        with contextlib.suppress(client.Failed):  # `assertRaises` would clear the frames
+            await made.take(upload, stream())
+        await self.all_gone(2)
+
+    async def test_several_at_once(self) -> None:
+        with contextlib.suppress(client.Failed):
+            await groups.several(iter([self.store() for _ in range(4)]), 4)
+        await self.all_gone(4)
 
 
 if __name__ == "__main__":

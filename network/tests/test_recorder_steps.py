@@ -85,7 +85,8 @@ class FullDisk(unittest.IsolatedAsyncioTestCase):
                     stack.enter_context(contextlib.redirect_stdout(io.StringIO()))
                     said = stack.enter_context(contextlib.redirect_stderr(io.StringIO()))
                     self.assertEqual(await asyncio.wait_for(recording.serve(settings), 60), 1)
-                more = f", or remove {settings.state}" if etcd is other.etcd else ""
+                more = f"; remove {settings.state} only if the ledger must stay as etcd has it now"
+                more = more if etcd is other.etcd else ""
                 advice = re.escape(f": restore it (network/OPERATING.md){more}\n")
                 self.assertRegex(said.getvalue(), f"(?m)^recorder-0 must stop: {text}.*{advice}\\Z")
 

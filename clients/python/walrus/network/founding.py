@@ -172,7 +172,7 @@ class Founding:
             text = (
                 f"{self.folder / unnamed[0]}.crt {late[unnamed[0]]}; if it was fast when this was made, renew by name "
             )
-            raise Unfounded(f"{text}(walrus-net renew {self.folder} {' '.join(late)})")
+            raise Unfounded(f"{text}(walrus-net renew {self.folder} {' '.join(late)}), and then the rest without names")
         changed = []
         for name in (AUTHORITY, ETCD_AUTHORITY):
             path = self.folder / f"{name}.crt"

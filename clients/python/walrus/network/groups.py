@@ -7,11 +7,15 @@ Result = TypeVar("Result")
 
 async def all_of(works: Iterable[Coroutine[Any, Any, Result]]) -> list[Result]:
     """Runs all of these at once, and returns what each returns."""
+    tasks, found = list["asyncio.Task[Result]"](), list[Exception]()
     try:
         async with asyncio.TaskGroup() as group:
-            tasks = [group.create_task(work) for work in works]
-    except ExceptionGroup as faults:
-        raise first_of(faults) from None
+            tasks += [group.create_task(work) for work in works]
+    except ExceptionGroup as faults:  # what is raised below must not lead to a task, as with `Writer.end`
+        found.append(first_of(faults.with_traceback(None)))
+        tasks.clear()
+    if found:
+        raise found.pop()
     return [task.result() for task in tasks]
 
 

@@ -139,12 +139,15 @@ class Piped(Sending):
         while True:
             self.start = self.end
             self.file.truncate(0)
-            await self.fill()
-            if not self.ahead:
+            with contextlib.suppress(TimeoutError):  # what has come by then is sent: a gateway waits for 30 s only
+                async with asyncio.timeout(QUIET):
+                    await self.fill()
+            if self.is_over and not self.ahead:
                 return
-            part = await self.take()
-            yield part
-            self.bar.add(len(part))
+            if self.ahead:
+                part = await self.take()
+                yield part
+                self.bar.add(len(part))
 
 
 def keeping() -> IO[bytes]:

@@ -218,7 +218,7 @@ async def serve(settings: RecorderSettings) -> int:
     except (Broken, OSError, sqlite3.Error) as fault:
         told = ": restore it (network/OPERATING.md)" if isinstance(fault, Broken) else ""
         if told and "no ledger any more" not in str(fault):  # without its state it would found another ledger there
-            told += f", or remove {settings.state}"
+            told += f"; remove {settings.state} only if the ledger must stay as etcd has it now"
         if type(fault) is sqlite3.DatabaseError:
             told = f": {settings.state} is torn: start the recorder again, and it makes a new one"
         print(f"{settings.name} must stop: {fault}{told}", file=sys.stderr, flush=True)

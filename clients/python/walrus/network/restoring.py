@@ -24,7 +24,7 @@ FEW += "and restore again; if they are lost, start the recorders, and what only 
 OLD = (
     "{} have kept only later entries, so the ledger had more than this snapshot has: start no recorder, and restore a "
 )
-OLD += "later snapshot (network/OPERATING.md)"
+OLD += "later snapshot, or start the nodes that were silent and restore again (network/OPERATING.md)"
 STRANGE = "{} heard more than the snapshot has, but had no shards in it, so nothing of that is believed: "
 STRANGE += "restore a later snapshot, or start the nodes that had shards then and restore again (network/OPERATING.md)"
 UNBELIEVED = (

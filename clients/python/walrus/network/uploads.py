@@ -189,17 +189,16 @@ class Uploads:
                         if len(tasks) >= AHEAD:
                             await tasks[-AHEAD]
                         store(full)
+            await asyncio.gather(*tasks)
         finally:
-            said = await asyncio.gather(*tasks, return_exceptions=True)  # whole pieces are stored, whatever follows
-        for fault in said:
-            if fault is not None:
-                raise fault
+            await asyncio.gather(*tasks, return_exceptions=True)  # whole pieces are stored, whatever follows
+            tasks.clear()  # as in `Writer.end`
 
     async def store(self, upload: Upload, number: int, before: "list[asyncio.Task[None]]") -> None:
         """Stores a piece in the network, and records it once the tasks `before`, those of earlier pieces, are done."""
         name, was_there = await self.publisher.writer.store_blob(upload.piece(number), upload.about["until"])
-        for task in before:
-            await task
+        while before:
+            await before.pop()  # an error that led to its task by this frame would be a cycle
         upload.record(name, was_there)
 
     async def finish(self, upload: Upload) -> Told:
