@@ -1,5 +1,7 @@
 """What the tests share: a network in a folder of its own, always ended, whose recorded run is checked at the end."""
 import asyncio
+import contextlib
+import fcntl
 import os
 import pathlib
 import random
@@ -9,10 +11,12 @@ import subprocess
 import sys
 import tempfile
 import unittest
+from typing import IO
 
 HERE = pathlib.Path(__file__).resolve().parent
 sys.path.insert(0, str(HERE.parents[1] / "clients" / "python"))
 
+from walrus.network import local  # noqa: E402
 from walrus.network.client import Network  # noqa: E402
 from walrus.network.local import Local, find_program  # noqa: E402
 from walrus.loop import wait_without_threads  # noqa: E402
@@ -22,6 +26,23 @@ wait_without_threads()
 
 ODD = [sys.executable, str(HERE / "odd_node.py")]  # a node that is told how to be odd by its environment
 FOUR = ["node-0", "node-1", "node-2", "node-3"]
+draw_port, DRAWN = local.free_port, list[IO[bytes]]()
+
+
+def free_port() -> int:
+    """A free port that no other test draws as long as this process runs: some time goes by until anybody listens."""
+    folder = pathlib.Path(tempfile.gettempdir(), f"walrus-test-ports-{os.getuid()}")
+    folder.mkdir(exist_ok=True)
+    while True:
+        port = draw_port()
+        lock = open(folder / str(port), "wb")
+        with contextlib.suppress(BlockingIOError):
+            fcntl.flock(lock, fcntl.LOCK_EX | fcntl.LOCK_NB)
+            DRAWN.append(lock)
+            return port
+
+
+local.free_port = free_port
 
 
 def lacking() -> str:
