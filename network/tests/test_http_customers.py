@@ -94,7 +94,7 @@ class Customers(GuardCase):
         ):
             path.write_text(bad)
             with self.assertRaisesRegex(ValueError, "tokens.json has no tokens that can be read"):
-                tokens.Tokens(path, path)
+                tokens.Tokens(path, path, path.with_suffix(".used"))
 
     async def test_a_file_of_tokens_that_is_named_must_be_there(self) -> None:
         """Otherwise anyone may read if its name is misspelt or it is lost. The default one may be made later."""
@@ -105,6 +105,23 @@ class Customers(GuardCase):
         await self.start(tokens=str(named))
         self.assertEqual(await self.put(), 401)
         await self.start(tokens=str(self.folder / "." / "tokens.json"))
+        self.assertEqual(await self.put(), 201)
+
+    async def test_tokens_that_are_lost_while_it_is_stopped_open_nothing(self) -> None:
+        """Without tokens anyone may read; that there have been some is known by the file of what they have used."""
+        default, used = self.folder / "tokens.json", self.folder / "kept" / "tokens.used"
+        used.parent.mkdir()
+        founded: dict[str, Any] = {"tokens": str(default), "used": str(used)}
+        for options in (dict[str, Any](), founded):
+            await self.start(**options)
+            self.assertEqual(await self.put(), 201)  # there have been none
+            self.token("alice", "read")
+            self.assertEqual(await self.put(), 401)
+            default.unlink()
+            with self.assertRaisesRegex(ValueError, "tokens.json is not there, but .*tokens.used is.*: bring it back"):
+                await self.start(**options)
+        used.unlink()
+        await self.start(**founded)
         self.assertEqual(await self.put(), 201)
 
     async def test_a_share_ends(self) -> None:

@@ -116,6 +116,11 @@ class Values(SettingsCase):
 
     async def test_a_file_of_tokens_that_is_named_must_be_there(self) -> None:
         self.assertEqual(check(self.change("gate", tokens='"tokens.json"'))[1], [])  # the default one
+        for name, values in (("tokens.used", dict[str, str]()), ("kept.used", {"used": '"kept.used"'})):
+            (self.folder / name).touch()
+            [fault] = check(self.change("gate", **values))[1]
+            self.assertIn(f"tokens.json is not there, but {self.folder / name} is, so there have been tokens", fault)
+            (self.folder / name).unlink()
         [fault] = check(path := self.change("gate", tokens='"tokns.json"'))[1]
         self.assertIn(f"tokens: {self.folder}/tokns.json is not there", fault)
         (self.folder / "tokns.json").write_text("{}")

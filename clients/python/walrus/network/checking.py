@@ -30,9 +30,10 @@ def check(path: pathlib.Path) -> tuple[str, list[str], list[str]]:
         return role, faults, []
     told = {**values, **{it: located(path, values[it]) for it in kind.paths if values.get(it)}}
     faults += faults_of_places(told) + faults_of_files(told) + faults_of_keys(told) + faults_of_https(told)
-    if told.get("tokens"):
-        default = pathlib.Path(told["authority"]).with_name("tokens.json")
-        faults += filter(None, [tokens.fault_of(pathlib.Path(told["tokens"]), default)])
+    if role == GatewaySettings.role:
+        places = tokens.places(pathlib.Path(told["authority"]).parent, told.get("tokens", ""), told.get("used", ""))
+        faults += filter(None, [tokens.fault_of(*places)])
+        told |= {"tokens": places[0], "used": places[2]}
     pairs = [("authority", "certificate", "key", told["name"])]
     pairs += [("etcd_authority", "etcd_certificate", "etcd_key", None)] if "etcd" in told else []
     soon = []

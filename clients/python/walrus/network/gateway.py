@@ -30,7 +30,7 @@ from .reading import Reader, send_text
 from .shelf import Shelf
 from .sorting import Sorter
 from .times import HEADERS, Times
-from .tokens import STORE, Tokens
+from .tokens import STORE, Tokens, places
 from .turns import ASKING, owner_of
 from .uploads import Uploads
 
@@ -82,9 +82,9 @@ class Gateway(Server):
     def __init__(self, network: Network, folder: pathlib.Path, options: Optional[Options] = None):
         super().__init__()
         self.network, self.options = network, options or Options()
-        options, default = self.options, folder / "tokens.json"
-        tokens = pathlib.Path(options.tokens or default)
-        self.guard = Guard(options, Tokens(tokens, default))
+        options = self.options
+        tokens, default, used = places(folder, options.tokens, options.used)
+        self.guard = Guard(options, Tokens(tokens, default, used))
         self.reader = Reader(network, options)
         self.shelf = Shelf(self.reader)
         self.lister = Lister(network, self.reader, self.shelf)
@@ -97,7 +97,7 @@ class Gateway(Server):
         self.watch = Watch(network, memory, network.authority, options.probe, options.challenge, options.stale, sorter)
         self.watch.announced, self.times = self.announcer.findings, Times()
         self.requests: "collections.Counter[str]" = collections.Counter()
-        self.publisher.used = options.used or str(tokens.with_suffix(".used"))
+        self.publisher.used = str(used)
         self.certificate = Certificate(options.tls_certificate, options.tls_key) if options.tls_certificate else None
         self.log, self.each = log_to(options.log), collections.Counter[str]()
 

@@ -63,15 +63,25 @@ def read_tokens(path: pathlib.Path) -> dict[str, Token]:
 
 class Tokens:
     """The tokens of a file, which is read again when it changes. If it is later lost or malformed, the earlier tokens
-    remain valid: a gateway with tokens must not become open to all. For the same reason a file other than `default`
-    must be there at the start: raises `ValueError`."""
+    remain valid: a gateway with tokens must not become open to all. For the same reason the file must be there at the
+    start if it is not `default`, or if there have been tokens, as `used` then shows: raises `ValueError`."""
 
-    def __init__(self, path: pathlib.Path, default: pathlib.Path):
+    def __init__(self, path: pathlib.Path, default: pathlib.Path, used: pathlib.Path):
         self.path, self.known, self.state = path, None, ()  # type: pathlib.Path, Optional[dict[str, Token]], object
+        self.used = used
         if path.exists():
             self.known, self.state = read_tokens(path), self.look()
-        elif fault := fault_of(path, default):
+            self.mark()
+        elif fault := fault_of(path, default, used):
             raise ValueError(fault)
+
+    def mark(self) -> None:
+        """Makes the file of what tokens have used, empty, unless it is there."""
+        try:
+            if not self.used.exists():
+                self.used.touch()
+        except OSError as fault:
+            print(f"{fault}: if {self.path} is lost, the next start does not notice", file=sys.stderr, flush=True)
 
     def look(self) -> object:
         """Returns a value that changes whenever the file does."""
@@ -87,6 +97,7 @@ class Tokens:
             self.state = state
             try:
                 self.known = read_tokens(self.path)
+                self.mark()
             except (OSError, ValueError) as fault:
                 print(f"{fault}: the earlier tokens remain valid", file=sys.stderr, flush=True)
                 self.known = self.known or {}
@@ -101,11 +112,23 @@ class Tokens:
         return found
 
 
-def fault_of(path: pathlib.Path, default: pathlib.Path) -> str:
-    """Returns what is wrong if a file of tokens is missing that is not the default one; empty if nothing is."""
-    if os.path.exists(path) or path.resolve() == default.resolve():
+def fault_of(path: pathlib.Path, default: pathlib.Path, used: pathlib.Path) -> str:
+    """Returns what is wrong if a file of tokens is missing that is not the default one, or that has been there, as
+    `used` shows; empty if nothing is."""
+    may_lack = path.resolve() == default.resolve()
+    if os.path.exists(path) or may_lack and not os.path.exists(used):
         return ""
-    return f"tokens: {path} is not there: bring it back, or make a first token (walrus-net token NAME --tokens {path})"
+    said = f"{path} is not there" + (f", but {used} is, so there have been tokens" if may_lack else "")
+    mend = f"bring it back, or make a first token (walrus-net token NAME --tokens {path})"
+    return f"tokens: {said}: {mend}" + (f"; to have none again, remove {used}" if may_lack else "")
+
+
+def places(folder: pathlib.Path, tokens: str, used: str) -> tuple[pathlib.Path, pathlib.Path, pathlib.Path]:
+    """Returns the file of tokens, the default one in a gateway's folder, and the file of what tokens have used, if
+    options name the first and the last, or leave them empty."""
+    default = folder / "tokens.json"
+    path = pathlib.Path(tokens or default)
+    return path, default, pathlib.Path(used or path.with_suffix(".used"))
 
 
 def change_token(path: pathlib.Path, name: str, told: Optional[dict[str, Any]]) -> str:

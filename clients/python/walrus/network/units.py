@@ -32,9 +32,6 @@ def warnings(path: pathlib.Path, role: str, told: Mapping[str, Any]) -> list[str
         return []
     found = re.findall(r"^LoadCredential=([^:\n]+)", systemctl("cat", unit), re.MULTILINE)
     given = {it.replace("%i", path.stem) for it in found}
-    if role == "gateway":  # its settings may leave these out
-        tokens = told.get("tokens") or pathlib.Path(told["authority"]).with_name("tokens.json")
-        told = {**told, "tokens": tokens, "used": told.get("used") or pathlib.Path(tokens).with_suffix(".used")}
     read = {path: 4} | {pathlib.Path(told[it]): 1 if it == "program" else 4 for it in READ if told.get(it)}
     shut: dict[pathlib.Path, pathlib.Path] = {}
     for file, needed in read.items():
