@@ -5,6 +5,7 @@ import os
 import pathlib
 import signal
 import unittest
+from typing import Any
 from unittest import mock
 
 from harness import HERE
@@ -219,6 +220,18 @@ class Transfers(TransferCase):
         self.named = self.said[:-1]
         _, error = await self.run_net("store", self.out, "--epochs", "1", status=1)
         self.assertIn(f"the gateway names it {written[:-2]}, but", error)
+
+    async def test_a_list_that_does_not_go_forward_ends(self) -> None:
+        low, high = "1" * 64, "2" * 64
+        blob = {"blobId": high, "endEpoch": 5, "certificate": None, "invalid": False}
+        ways: list[list[Any]] = [[high, None], [high, high], [high, low], [low, "3" * 63], [""], [7]]
+        for following in ways:
+            lies = following[-1] is not None
+            self.pages, self.asked = [{"epoch": 0, "blobs": [blob], "next": it} for it in following], []
+            out, error = await self.run_net("list", status=int(lies))
+            self.assertEqual((out.count(high.encode()), len(self.asked)), (len(following), len(following)))
+            said = "the list does not go forward", "this gateway lies"
+            self.assertEqual([it in error for it in said], [lies] * 2, error)
 
     async def test_for_how_many_epochs_is_said(self) -> None:
         self.out.write_bytes(b"first")

@@ -7,7 +7,7 @@ import random
 import signal
 import tempfile
 import unittest
-from typing import Union
+from typing import Any, Union
 from unittest import mock
 
 from aiohttp import web
@@ -44,8 +44,10 @@ class TransferCase(unittest.IsolatedAsyncioTestCase):
         self.starts, self.gone, self.whole = list[int](), False, False  # where each answer began; whether the gateway
         # goes in its midst, or hears no ranges
         self.missing = 404  # the status for a name that no file has
+        self.pages, self.asked = list[dict[str, Any]](), list[str]()  # of a list; after what each was asked for
         app = web.Application(client_max_size=2**30)
         app.add_routes([web.get("/v1/status", self.status), web.get("/v1/blobs/{name}", self.give)])
+        app.add_routes([web.get("/v1/blobs", self.give_page)])
         app.add_routes([web.put("/v1/blobs", self.take), web.post("/v1/bundles", self.take)])
         app.add_routes([web.post("/v1/uploads", self.begin), web.get("/v1/uploads/1", self.look)])
         app.add_routes([web.patch("/v1/uploads/1", self.take)])
@@ -88,6 +90,10 @@ class TransferCase(unittest.IsolatedAsyncioTestCase):
         with contextlib.suppress(ConnectionError):  # the client that was interrupted has gone
             await response.write(data[len(data) // 2 :])  # noqa: E203
         return response
+
+    async def give_page(self, request: web.Request) -> web.Response:
+        self.asked.append(request.query["after"])
+        return web.json_response(self.pages[len(self.asked) - 1])
 
     async def begin(self, _: web.Request) -> web.Response:
         return web.Response(status=201 if self.resumes else 404, headers={"Location": "/v1/uploads/1"})

@@ -75,13 +75,18 @@ async def check(response: aiohttp.ClientResponse) -> None:
 
 
 async def listed(session: aiohttp.ClientSession, within: int) -> AsyncIterator[dict[str, Any]]:
-    """Yields a gateway's JSON of each blob that ends within some epochs, in the order of their identifiers."""
-    after = ""
+    """Yields a gateway's JSON of each blob that ends within some epochs, in the order of their identifiers. Raises
+    `Failure` if a page of the list leads to none that is further on, as the list would then never end."""
+    after: Optional[str] = ""
     while after is not None:
         told = await ask(session, "GET", "/v1/blobs", params={"within": within, "after": after})
         for blob in told["blobs"]:
             yield blob
-        after = told["next"]
+        following = told["next"]
+        if following is not None and not (re.fullmatch("[0-9a-f]{64}", str(following)) and following > after):
+            place = f"after {after}" if after else "at its beginning"
+            raise Failure(f"the list does not go forward {place}, and would never end: this gateway lies", 1)
+        after = following
 
 
 @contextlib.asynccontextmanager
