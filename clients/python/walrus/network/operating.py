@@ -161,14 +161,15 @@ def tell_of(network: Network, owners: list[str], ended: list[str], reordered: bo
 
 
 async def begin(words: argparse.Namespace) -> int:
-    """Begins the first epoch of a network, with the nodes in its plan."""
+    """Begins the first epoch of a network, with the nodes in its plan; does nothing if it has begun. The plan may have
+    other nodes by then, as `add` and `remove` change it."""
     plan = json.loads((words.folder / "network.json").read_text())
     if "nodes" not in plan:
         raise Failure(f"{words.folder} does not say with which nodes the network was founded", 2)
     owners = [name for name, (_, _, shards) in plan["nodes"].items() for _ in range(shards)]
     async with Network(words.folder, OPERATOR) as network:
         if network.ledger.now:
-            raise Failure(f"epoch {network.ledger.epoch} has begun before: walrus-net handover begins the next one", 1)
+            return has_begun(network.ledger, 0, list(network.ledger.now), words.json)
         await network.until(lambda it: {*owners} <= {*it.addresses}, 20)  # which a node posts soon after its start
         await must_answer(network, owners, plan["faults"], False)
         await network.begin(plan["faults"], owners, 0)
