@@ -58,7 +58,7 @@ class Reports(unittest.IsolatedAsyncioTestCase):
             await service.restore(60)
 
     async def restored(
-        self, memory: Memory, names: Sequence[str], heard: Chain, short: Mapping[str, int]
+        self, memory: Memory, names: Sequence[str], heard: Chain, short: Mapping[str, int], seconds: float = 0.1
     ) -> tuple[int, str]:
         """Runs a restore to which these nodes report that they have heard this much; returns its status and output."""
         memory.aclose, said = mock.AsyncMock(), io.StringIO()
@@ -71,7 +71,9 @@ class Reports(unittest.IsolatedAsyncioTestCase):
 
         with mock.patch.object(restoring, "etcd_of", lambda _: memory), mock.patch.object(Restoring, "listen", listen):
             with contextlib.redirect_stderr(said), contextlib.redirect_stdout(io.StringIO()):
-                return await restoring.serve(mock.Mock(), 0.1), said.getvalue()
+                status = await restoring.serve(mock.Mock(), seconds)
+        self.assertEqual(asyncio.all_tasks(), {asyncio.current_task()})  # else asyncio would complain of what was left
+        return status, said.getvalue()
 
     async def test_somebody_without_shards_makes_no_restore_fail_that_is_complete(self) -> None:
         memory, end = await self.begun(FOUNDED, registration("publisher", 1))
@@ -79,6 +81,14 @@ class Reports(unittest.IsolatedAsyncioTestCase):
             found, said = await self.restored(memory, NODES[:heard], chain, {"publisher": 10**9})
             self.assertEqual(found, status)
             self.assertIn("publisher heard more than the" if status else "publisher reported more", said)
+
+    async def test_a_restore_that_a_signal_ends_leaves_nothing_unfinished(self) -> None:
+        memory, end = await self.begun(FOUNDED, registration("publisher", 1))
+        ended = asyncio.Event()
+        with mock.patch.object(restoring, "ending", lambda: ended):
+            asyncio.get_running_loop().call_later(1.2, ended.set)
+            found, said = await self.restored(memory, NODES[:2], end, {}, 60)
+        self.assertEqual((found, "nodes of 2 shards have heard" in said), (1, True))
 
     async def test_a_restore_fails_if_nodes_of_fewer_than_2f_1_shards_have_reported_all(self) -> None:
         """The others may have more; nodes that have not kept the next entries even say so."""

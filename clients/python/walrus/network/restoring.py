@@ -3,9 +3,10 @@ it, and appends those on which the nodes of f+1 shards agree. No recorder may ru
 the older ledger: nodes send the digest of what they have heard, up to its end at most, so that this is noticed."""
 import asyncio
 import collections
+import contextlib
 import sys
 import time
-from typing import Optional
+from typing import Any, Optional
 
 from aiohttp import web
 
@@ -164,7 +165,9 @@ class Restoring(Service):
             elif {*recorder.ledger.nodes} <= {*self.tails, *self.others}:
                 break
             self.told.clear()
-            await asyncio.wait([asyncio.create_task(self.told.wait())], timeout=1)
+            with contextlib.suppress(TimeoutError):
+                async with asyncio.timeout(1):
+                    await self.told.wait()
         return count
 
 
@@ -172,12 +175,13 @@ async def serve(settings: RecorderSettings, seconds: float) -> int:
     """Runs until the ledger is complete, nobody reports more, or a signal ends it; returns the exit status."""
     recorder = Recorder(etcd_of(settings))
     service, told = Restoring(recorder, settings), ending()
+    tasks: "list[asyncio.Task[Any]]" = []
     try:
         await service.find_end(seconds, told)
         print(f"the ledger ends at place {recorder.chain.place}: nodes are asked for what they have", flush=True)
         await service.listen()
-        working = asyncio.create_task(service.restore(seconds))
-        await asyncio.wait([working, asyncio.create_task(told.wait())], return_when=asyncio.FIRST_COMPLETED)
+        tasks += [working := asyncio.create_task(service.restore(seconds)), asyncio.create_task(told.wait())]
+        await asyncio.wait(tasks, return_when=asyncio.FIRST_COMPLETED)
         count: Optional[int] = working.result() if working.done() else None
         for name in recorder.ledger.nodes:
             if name in service.others:
@@ -197,6 +201,9 @@ async def serve(settings: RecorderSettings, seconds: float) -> int:
         print(f"the ledger is not restored: {fault}", file=sys.stderr)
         return 1
     finally:
+        for task in tasks:
+            task.cancel()
+        await asyncio.gather(*tasks, return_exceptions=True)
         await service.end(1)
         await recorder.etcd.aclose()
         recorder.state.close()
