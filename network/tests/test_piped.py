@@ -179,17 +179,31 @@ class Pauses(UploadCase):
             self.assertEqual(await self.put_piped(data[:1_700], PAUSE, data[1_700:]), self.name_of(data))
 
     async def test_a_disk_that_is_full_is_not_taken_for_a_break_of_the_connection(self) -> None:
+        """What it has no room for is sent once the gateway has the rest. Without room for a part, the command ends."""
         await self.start()
+        room = 300
 
         def write(file: IO[bytes], data: memoryview) -> None:
-            if file.tell() + len(data) > 1_500:
+            if file.tell() + len(data) > room:
+                pieces.write(file, data[: max(0, room - file.tell())])
                 raise OSError(28, "No space left on device")
             pieces.write(file, data)
 
         with mock.patch.object(piped, "write", write):
-            with self.assertRaisesRegex(Failure, "cannot be kept .* No space left on device; name a folder .* TMPDIR"):
+            for room in (300, 700, 1_500):
+                for size in (500, 1_000, 5_000):
+                    data = os.urandom(size)
+                    self.assertEqual(await self.put_piped(data[:400], 0.1, data[400:]), self.name_of(data))
+            data, self.away = os.urandom(3_000), "the nodes are away"
+            task = asyncio.create_task(self.put_piped(data[:1_900], 3.0, data[1_900:]))
+            await asyncio.sleep(2 * PAUSE)
+            self.away = ""
+            self.assertEqual(await task, self.name_of(data))
+            room, before = 299, self.uploads()
+            full = "does not take 300 bytes of the input: .* No space left on device; name a folder in TMPDIR with"
+            with self.assertRaisesRegex(Failure, full):
                 await self.put_piped(os.urandom(5_000))
-        self.assertEqual(self.uploads(), [])
+        self.assertCountEqual(self.uploads(), before)
 
 
 class Memory(TransferCase):

@@ -1,6 +1,7 @@
 """Stores what a pipe brings, such as standard input: its length is not known, and it may pause."""
 import asyncio
 import contextlib
+import errno
 import os
 import tempfile
 from typing import IO, Any, AsyncIterator, Optional
@@ -14,7 +15,8 @@ from .resuming import Broken, Sending
 from .transfers import PART, Bar, Failure, must_name, naming_of, put
 
 QUIET = 2.0  # seconds without a part after which a request ends: a gateway takes longer pauses for a broken client
-WINDOW = 4 * PIECE  # bytes that are kept at most until the gateway has them
+WINDOW = 4 * PIECE  # bytes that are kept at most until the gateway has them; fewer if the disk has no room for them
+FULL = errno.ENOSPC, errno.EDQUOT
 PARTING = 5.0  # seconds for a gateway to drop an upload that is given up
 
 
@@ -45,10 +47,10 @@ class Piped(Sending):
 
     async def send_all(self, epochs: int) -> Any:
         """Sends all that comes, and returns the gateway's answer. Raises `Failure` if it comes too early."""
-        while self.end <= PIECE and not self.is_over:
+        while self.end <= PIECE and not (self.is_over or self.ahead):
             await self.fill()
             await self.take()
-        if self.end <= PIECE:
+        if self.end <= PIECE and not self.ahead:
             return await put(self.session, self.parts(0), epochs)
         try:
             told = await self.send(None, epochs)
@@ -86,14 +88,18 @@ class Piped(Sending):
                 self.is_over = not data
 
     async def take(self) -> bytes:
-        """Moves what was read to `file` and into the identifier, and returns it."""
+        """Moves what was read to `file` and into the identifier, and returns it. Returns nothing, and leaves it where
+        it is, if the disk has no room for it before the gateway has what is kept already."""
         part = bytes(self.ahead)
         try:
             self.file.seek(self.end - self.start)
             write(self.file, memoryview(part))
         except OSError as fault:  # and not as a break of the connection, which aiohttp would make of it
-            said = f"the input cannot be kept until the gateway has it: {fault}"
-            raise Failure(f"{said}; name a folder with more room in TMPDIR, and {self.advice}", 1) from None
+            if fault.errno in FULL and self.end > self.start:
+                return b""
+            said = f"the disk for temporary files does not take {len(part)} bytes of the input: {fault}"
+            mend = f"name a folder in TMPDIR with at least {PART >> 20} MiB free, or {WINDOW >> 20} MiB to be fast"
+            raise Failure(f"{said}; {mend}, and {self.advice}", 1) from None
         self.ahead.clear()
         self.end += len(part)
         await self.name(self.end)
@@ -110,7 +116,8 @@ class Piped(Sending):
                 await self.fill()  # for as long as it takes
             if self.is_over:
                 await self.take()
-                return await super().go_on(offset)
+                if not self.ahead:
+                    return await super().go_on(offset)
             async with self.patch(offset, {"Upload-Complete": "?0"}) as said:
                 if said.headers.get("Upload-Offset") != str(self.end):
                     raise Broken("the gateway has not taken all that it was sent")
@@ -126,9 +133,8 @@ class Piped(Sending):
                     await self.fill()
             except TimeoutError:
                 return
-            if not self.ahead:
+            if not self.ahead or not (part := await self.take()):
                 return
-            part = await self.take()
             yield part
             self.bar.add(len(part))
 
