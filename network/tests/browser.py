@@ -27,13 +27,15 @@ class Browser(contextlib.AbstractAsyncContextManager["Browser"]):
         self.process = await asyncio.create_subprocess_exec(PROGRAM, *words, "about:blank", stderr=-3, **quiet)
         self.session, self.number = aiohttp.ClientSession(), 0
         try:
-            async with asyncio.timeout(40):
-                told = pathlib.Path(self.folder) / "DevToolsActivePort"
+            async with asyncio.timeout(120):
+                told, pages = pathlib.Path(self.folder) / "DevToolsActivePort", list[dict[str, Any]]()
                 while not told.exists() or "\n" not in told.read_text():
                     await asyncio.sleep(0.1)
                 port = told.read_text().split()[0]
-                async with self.session.get(f"http://127.0.0.1:{port}/json/list") as said:
-                    pages = [it for it in await said.json(content_type=None) if it["type"] == "page"]
+                while not pages:  # it listens before it has one
+                    await asyncio.sleep(0.1)
+                    async with self.session.get(f"http://127.0.0.1:{port}/json/list") as said:
+                        pages = [it for it in await said.json(content_type=None) if it["type"] == "page"]
                 self.socket = await self.session.ws_connect(pages[0]["webSocketDebuggerUrl"], max_msg_size=2**26)
         except BaseException:
             await self.__aexit__()
@@ -73,7 +75,7 @@ class Browser(contextlib.AbstractAsyncContextManager["Browser"]):
             raise RuntimeError(str(said["exceptionDetails"]))
         return said["result"].get("value")
 
-    async def until(self, text: str, seconds: float = 30) -> bool:
+    async def until(self, text: str, seconds: float = 60) -> bool:
         """Whether an expression comes to hold in time."""
         with contextlib.suppress(TimeoutError):
             async with asyncio.timeout(seconds):

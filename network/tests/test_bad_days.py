@@ -89,7 +89,7 @@ class BadDays(NetworkCase):
             self.faulty = {"node-3"}  # it forgot what it had acknowledged
             path.unlink()
             await self.local.start_node("node-3")
-            for _ in range(100):
+            for _ in range(300):
                 if len(self.slivers("node-3")) == 12:
                     break
                 await asyncio.sleep(0.2)
@@ -137,7 +137,7 @@ class BadDays(NetworkCase):
                     last = await self.store(network)
                 self.assertEqual(network.ledger.certificate(last), (0, 3))
             hung.send_signal(signal.SIGCONT)
-            for _ in range(150):  # it recovers from the others what it did not take
+            for _ in range(300):  # it recovers from the others what it did not take
                 if len(self.slivers("node-2")) == 2 * len(self.blobs):
                     break
                 await asyncio.sleep(0.2)

@@ -223,10 +223,10 @@ class Steps(unittest.IsolatedAsyncioTestCase):
                         for task in tasks:
                             task.cancel()
                         start(2)
-            for _ in range(400):
-                if memory.marked and memory.marked[-1].epoch == 4 and not [it for it in memory.kept if it < 20]:
-                    break
-                await asyncio.sleep(0.005)
+            with contextlib.suppress(TimeoutError):
+                async with asyncio.timeout(30):
+                    while not memory.marked or memory.marked[-1].epoch < 4 or [it for it in memory.kept if it < 20]:
+                        await asyncio.sleep(0.005)
             self.assertEqual(memory.marked[-1].epoch, 4)
         finally:
             for task in tasks:

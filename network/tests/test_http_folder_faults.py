@@ -134,13 +134,16 @@ class Faults(FolderGatewayCase):
     async def test_what_is_certified_of_a_folder_that_fails_is_told(self) -> None:
         await self.start()
         true, files = self.gateway.publisher.writer.store, {"a": b"a" * 600_000, "b": b"b" * 600_000}
+        certified = asyncio.Event()
 
         async def store(stream: AsyncIterator[bytes], epochs: int, stored: list[bytes]) -> dict[str, Any]:
             told: dict[str, Any] = await true(stream, epochs)
             if told["blobId"] != hashlib.sha256(files["a"]).hexdigest():
-                await asyncio.sleep(0.2)  # the other one is certified by then
+                async with asyncio.timeout(60):
+                    await certified.wait()
                 raise client.Failed("it is told to fail", {})
             stored.append(bytes.fromhex(told["blobId"]))
+            certified.set()
             return told
 
         with unittest.mock.patch.object(self.gateway.publisher.writer, "store", store):

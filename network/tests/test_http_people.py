@@ -34,7 +34,7 @@ class People(UpCase):
         return (out + error).decode()
 
     async def test_the_command_and_the_page(self) -> None:
-        folder = await self.up("--stale", "2")
+        folder = await self.up("--stale", "8")  # on a busy machine a recorder's line may come some seconds late
         self.assertTrue(self.log("up").endswith("\nready\n"))  # a line that a script can wait for
         file, once = self.folder / "file", ("--epochs", 1)
         file.write_bytes(DRAWN.randbytes(50_000))

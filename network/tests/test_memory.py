@@ -98,7 +98,7 @@ class Shares(unittest.IsolatedAsyncioTestCase):
         self.memory.late.add(late)
         await self.begin("a", 10)
         late.add_done_callback(lambda _: self.ends["a"].set())
-        with mock.patch.object(pieces, "PATIENCE", 0.05):
+        with mock.patch.object(pieces, "PATIENCE", 1.0):
             await self.begin("b", 10)
             self.assertEqual((self.steps, late.done()), (["a"], False))  # for a moment nothing is ended
             await asyncio.wait([late], timeout=10)

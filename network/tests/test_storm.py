@@ -50,7 +50,8 @@ class Storm(StormCase):
         self.judge()
 
     async def rage(self, network: Network, operator: Network) -> None:
-        """All of it at once until the time is over, and what was begun is done."""
+        """All of it at once until the time is over, and what was begun is done. On a busy machine it takes longer until
+        all that must be tried has been."""
         parts = [self.write(network), self.write(network), self.read(network), self.read(network), self.kill()]
         parts += [self.hand_over(operator), self.annoy(network), self.crowd(network), self.forge(network), self.watch()]
         parts += [
@@ -60,8 +61,10 @@ class Storm(StormCase):
             *([self.fill()] if self.small else []),
             *([self.jump()] if self.ways[JUMPY][1] else []),
         ]
-        tasks = [asyncio.create_task(part) for part in parts]
-        done, _ = await asyncio.wait(tasks, timeout=SECONDS, return_when=asyncio.FIRST_EXCEPTION)
+        tasks, end = [asyncio.create_task(part) for part in parts], time.monotonic() + SECONDS
+        done = set[asyncio.Task[None]]()
+        while not done and time.monotonic() < end + (PATIENCE if self.lacking() else 0):
+            done, _ = await asyncio.wait(tasks, timeout=1, return_when=asyncio.FIRST_EXCEPTION)
         self.over = True
         try:
             for task in done:
@@ -94,8 +97,8 @@ class Storm(StormCase):
             self.counts[what] = max(self.counts[what], *numbers)
         self.counts["memory of who was not killed"] = usage[NODES.index(SPARED)][0]
 
-    def judge(self) -> None:
-        """What must have been tried, and the bounds that nodes kept."""
+    def lacking(self) -> list[str]:
+        """Returns what must be tried, and has not been."""
         wanted = ["stored", "read", "refused", "rubbish"]
         if SECONDS > 170:  # as tests/hour has it: in less, not all of it need be drawn
             wanted += [
@@ -109,7 +112,11 @@ class Storm(StormCase):
                 "scrubs",
             ]
             wanted += ["filled"] * self.small + ["jumps"] * bool(self.ways[JUMPY][1])
-        self.assertEqual([name for name in wanted if not self.counts[name]], [])
+        return [name for name in wanted if not self.counts[name]]
+
+    def judge(self) -> None:
+        """What must have been tried, and the bounds that nodes kept."""
+        self.assertEqual(self.lacking(), [])
         self.assertLess(self.counts["memory"], MOST_MEMORY)
         self.assertLess(self.counts["memory at the end"], MOST_LATER)
         self.assertLess(self.counts["descriptors"], MOST_DESCRIPTORS)
