@@ -1,6 +1,7 @@
 """What the tests of the gateway share: a gateway over a network on loopback, and curl."""
 import asyncio
 import json
+import os
 import pathlib
 import random
 import shutil
@@ -71,6 +72,13 @@ class GatewayCase(NetworkCase):
         return error
 
 
+PORTS = f"""import sys
+if "up" in sys.orig_argv:
+    sys.path.append({str(HERE)!r})
+    import harness
+"""  # Python runs this before the command, which then draws no port that a test has drawn
+
+
 class UpCase(NetworkCase):
     """A network with a gateway, both run by the command itself."""
 
@@ -78,7 +86,12 @@ class UpCase(NetworkCase):
         """Starts a new network with a gateway, whose URL goes to `url`; returns its folder."""
         folder, port = self.folder / "network", free_port()
         self.url = f"http://127.0.0.1:{port}"
-        up = await self.local.spawn("up", str(HERE.parent / "up"), str(folder), "--port", str(port), *words)
+        python = self.folder / "python"
+        python.mkdir(exist_ok=True)
+        (python / "sitecustomize.py").write_text(PORTS)
+        known = os.pathsep.join(filter(None, [str(python), os.environ.get("PYTHONPATH")]))
+        line = [str(HERE.parent / "up"), str(folder), "--port", str(port), *words]
+        up = await self.local.spawn("up", *line, env={**os.environ, "PYTHONPATH": known})
         async with asyncio.timeout(180):
             while self.url not in self.log("up"):
                 self.assertIsNone(up.returncode, self.log("up"))

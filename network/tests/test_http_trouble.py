@@ -49,8 +49,9 @@ class Trouble(GatewayCase):
         with mock.patch.object(connections, "FIRST", 0.2):
             self.assertEqual(await self.say(b"", wait=True), b"")  # a silent connection is closed
         served = [await asyncio.open_connection("127.0.0.1", self.port) for _ in range(150)]
-        await asyncio.sleep(0.2)
-        self.assertGreaterEqual(sum(reader.at_eof() or bool(reader.exception()) for reader, _ in served), 50)
+        async with asyncio.timeout(60):
+            while sum(reader.at_eof() or bool(reader.exception()) for reader, _ in served) < 50:
+                await asyncio.sleep(0.05)
         for _, writer in served:
             writer.transport.abort()
         await asyncio.sleep(0.2)
