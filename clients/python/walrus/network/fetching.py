@@ -1,20 +1,20 @@
 """Fetches folders from a gateway, which is not trusted: all is checked by its identifier before it takes its place."""
 import errno
-import functools
 import os
 import pathlib
 import tempfile
-from typing import IO, Any
+from typing import IO, Any, Coroutine, Iterator
 
 import aiohttp
 
 from .checked import Naming, is_named, written_whole
 from .chunks import PIECE
+from .groups import several
 from .manifest import MARK, MOST_BYTES, Manifest, Place, Wrong, shown
 from .partial import beside
 from .places import Root, is_equal
 from .transfers import BY_STATUS, PART, Bar, Failure, fetch, naming_of, parts_of, receive
-from .trees import Work, several
+from .trees import WIDTH
 
 
 class Fetching:
@@ -87,17 +87,17 @@ class Fetching:
             out.write(data)
         self.written += 1
 
-    async def fetch_all(self, places: list[Place]) -> None:
-        packs, works = dict[bytes, list[Place]](), list[Work]()
+    def works(self, places: list[Place]) -> Iterator[Coroutine[Any, Any, None]]:
+        """Yields the coroutines that fetch each large file, and each pack; writes empty files meanwhile."""
+        packs = dict[bytes, list[Place]]()
         for place in places:
             if not place.length:
                 self.write(place.path, b"")
             elif place.offset is None:
-                works.append(functools.partial(self.fetch_whole, place))
+                yield self.fetch_whole(place)
             else:
                 packs.setdefault(place.file, []).append(place)
-        works += [functools.partial(self.fetch_pack, name, some) for name, some in packs.items()]
-        await several(works)
+        yield from (self.fetch_pack(*it) for it in packs.items())
 
 
 class Limited:
@@ -136,7 +136,7 @@ async def fetch_folder(session: aiohttp.ClientSession, data: bytes, output: str,
         with Root(output) as root, Bar(os.path.basename(output.rstrip("/")), size) as bar:
             root.must_keep_apart([it.path for it in places])
             fetching = Fetching(session, await naming_of(session), root, bar)
-            await fetching.fetch_all(places)
+            await several(fetching.works(places), WIDTH)
     except OSError as fault:
         if fault.errno not in (errno.ELOOP, errno.ENOTDIR, errno.EISDIR, errno.EEXIST):
             raise
