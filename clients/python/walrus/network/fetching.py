@@ -34,8 +34,8 @@ class Fetching:
 
     async def receive(self, name: bytes, most: int, out: IO[bytes]) -> int:
         """Writes the file of an identifier, of at most `most` bytes, and returns its length."""
-        naming, limited = Naming(self.walrus, self.faults), Limited(out, most)
-        size = await receive(self.session, name.hex(), limited, naming, self.bar)  # type: ignore[arg-type]
+        naming = Naming(self.walrus, self.faults)
+        size = await receive(self.session, name.hex(), out, naming, self.bar, most=most)
         if not await is_named(out, name, naming):
             raise Failure(f"what the gateway gives is not {name.hex()}, and is dropped: this gateway lies", 1)
         return size
@@ -98,19 +98,6 @@ class Fetching:
             else:
                 packs.setdefault(place.file, []).append(place)
         yield from (self.fetch_pack(*it) for it in packs.items())
-
-
-class Limited:
-    """A file that accepts at most `most` bytes, in case a gateway sends without end."""
-
-    def __init__(self, file: IO[bytes], most: int):
-        self.file, self.left = file, most
-
-    def write(self, data: bytes) -> int:
-        self.left -= len(data)
-        if self.left < 0:
-            raise Failure("the gateway gives more bytes than the folder's manifest says", 3)
-        return self.file.write(data)
 
 
 def wanted(manifest: Manifest, only: str) -> list[Place]:

@@ -14,6 +14,7 @@ import aiohttp
 from .. import bundles, client, library
 
 from .checked import Naming, is_named
+from .chunks import LONGEST
 from .local import find_program
 from .manifest import clean
 
@@ -223,9 +224,10 @@ async def receive(
     naming: Naming,
     shared: Optional[Bar] = None,
     done: int = 0,
+    most: int = LONGEST,
 ) -> int:
     """Writes what a gateway gives for a name from byte `done` on, and goes on after a broken connection. Returns the
-    length of the whole file."""
+    length of the whole file; raises `Failure` if it has more than `most` bytes, as a gateway may send without end."""
     tries = 0
     with contextlib.nullcontext(shared) if shared else Bar(name[:16]) as bar:
         bar.add(done)
@@ -239,6 +241,8 @@ async def receive(
                     bar.size = bar.size if shared else done - again + (it.content_length or 0)
                     async for part in it.content.iter_any():
                         part, again = part[again:], max(0, again - len(part))
+                        if done + len(part) > most:
+                            raise Failure(f"the gateway gives more than the {most} bytes that the file may have", 3)
                         done += out.write(part)
                         await naming.add(part)
                         bar.add(len(part))
