@@ -147,22 +147,6 @@ def must_name(told: Any, names: list[bytes], what: str) -> None:
         raise Failure(f"the gateway names it {told['blobId']}, but {what} is {names[0].hex()}: this gateway lies", 1)
 
 
-async def store(session: aiohttp.ClientSession, path: str, epochs: int) -> Any:
-    """Stores a file in one request. Returns the gateway's answer."""
-    name, naming = os.path.basename(path), await naming_of(session)
-    with open(path, "rb") as file, Bar(name, os.fstat(file.fileno()).st_size) as bar:
-
-        async def parts() -> AsyncIterator[bytes]:
-            while part := file.read(PART):
-                await naming.add(part)
-                yield part
-                bar.add(len(part))
-
-        told = await put(session, parts(), epochs)
-    must_name(told, await naming.identifiers(), "the file")
-    return told
-
-
 async def store_bundle(session: aiohttp.ClientSession, paths: list[str], epochs: int) -> Any:
     """Stores small files as one bundle."""
     naming, form = await naming_of(session), aiohttp.FormData(quote_fields=False)
