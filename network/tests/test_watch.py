@@ -13,6 +13,7 @@ import harness  # noqa: F401  # which says where walrus is
 from walrus import audit, client
 from walrus.network import page
 from walrus.network.client import Network
+from walrus.network.exposure import Options
 from walrus.network.ledger import OPERATOR, Entry, Ledger, entry_key
 from walrus.network.pieces import Memory
 from walrus.network.problems import Problem
@@ -38,13 +39,13 @@ class Challenges(unittest.IsolatedAsyncioTestCase):
             *((it, "ack", 0, NAME.hex()) for it in "abc"),
         ):
             self.assertTrue(self.ledger.apply(Entry(self.ledger.revision + 1, entry_key(poster, kind, *fields))))
-        network: Any = types.SimpleNamespace(ledger=self.ledger, walrus=None)
+        network: Any = types.SimpleNamespace(ledger=self.ledger, walrus=None, authority=pathlib.Path("authority"))
         self.enterContext(mock.patch.object(page, "Peers"))
         self.enterContext(mock.patch.object(page.Watch, "ask", self.ask))
         self.enterContext(mock.patch.object(page.Watch, "seat", lambda *_: types.SimpleNamespace(number=0)))
         self.enterContext(mock.patch.object(page.Watch, "proves", mock.AsyncMock(return_value=False)))
         self.memory = Memory(4 * page.need_of(1))
-        self.watch = page.Watch(network, self.memory, pathlib.Path("authority"), 0.0001, 0.0001, 60)
+        self.watch = page.Watch(network, self.memory, Options(probe=0.0001, challenge=0.0001, stale=60))
         self.watch.peers = mock.AsyncMock()
         self.addAsyncCleanup(self.watch.close)
 
@@ -110,7 +111,7 @@ class Challenges(unittest.IsolatedAsyncioTestCase):
             raise RuntimeError("can't start new thread")
 
         sorter: Any = types.SimpleNamespace(learn=learn, files=list)
-        watch = page.Watch(self.watch.network, self.memory, pathlib.Path("authority"), 0.0001, 0, 60, sorter)
+        watch = page.Watch(self.watch.network, self.memory, Options(probe=0.0001, challenge=0, stale=60), sorter)
         watch.peers = mock.AsyncMock()
         self.addAsyncCleanup(watch.close)
         await self.watch.close()

@@ -81,23 +81,22 @@ class Gateway(Server):
 
     def __init__(self, network: Network, folder: pathlib.Path, options: Optional[Options] = None):
         super().__init__()
-        self.network, self.options = network, options or Options()
-        options, default = self.options, folder / "tokens.json"
+        self.network, default = network, folder / "tokens.json"
+        options = self.options = options or Options()
         tokens = pathlib.Path(options.tokens or default)
+        used = pathlib.Path(options.used or tokens.with_suffix(".used"))
         self.guard = Guard(options, Tokens(tokens, default))
         self.reader = Reader(network, options)
         self.shelf = Shelf(self.reader)
         self.lister = Lister(network, self.reader, self.shelf)
-        self.publisher = Publisher(network, self.reader, self.lister, options)
+        self.publisher = Publisher(network, self.reader, self.lister, options, used)
         self.folders = Folders(self.reader, self.publisher, self.shelf, options.sites)
         self.uploads = Uploads(self.publisher)
         self.announcer = Announcer(network, self.reader.memory)
         self.reader.rejected = self.announcer.hear
-        sorter, memory = Sorter(self.reader), self.reader.memory
-        self.watch = Watch(network, memory, network.authority, options.probe, options.challenge, options.stale, sorter)
+        self.watch = Watch(network, self.reader.memory, options, Sorter(self.reader))
         self.watch.announced, self.times = self.announcer.findings, Times()
         self.requests: "collections.Counter[str]" = collections.Counter()
-        self.publisher.used = options.used or str(tokens.with_suffix(".used"))
         self.certificate = Certificate(options.tls_certificate, options.tls_key) if options.tls_certificate else None
         self.log, self.each = log_to(options.log), collections.Counter[str]()
 

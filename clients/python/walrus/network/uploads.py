@@ -4,7 +4,7 @@ POST begins an upload, HEAD returns how much of it has arrived, PATCH continues 
 are stored piece by piece: certified pieces are never sent again, and at most a few are on the gateway's disk."""
 import asyncio
 import contextlib
-import pathlib
+import functools
 import re
 from typing import AsyncIterator, Optional
 
@@ -34,14 +34,10 @@ class Uploads:
     def __init__(self, publisher: Publisher):
         self.publisher, self.active = publisher, dict[str, web.Request]()
         self.turns = Turns(publisher.options.connections, 1)  # one request at a time may work on an upload
-        self.known: Optional[Unfinished] = None
 
-    @property
+    @functools.cached_property
     def kept(self) -> Unfinished:
-        if self.known is None:
-            folder = pathlib.Path(self.publisher.used).with_suffix(".uploads")
-            self.known = Unfinished(folder, self.publisher.options.reserve)
-        return self.known
+        return Unfinished(self.publisher.used.with_suffix(".uploads"), self.publisher.options.reserve)
 
     @property
     def most(self) -> int:
