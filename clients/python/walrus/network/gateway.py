@@ -102,10 +102,7 @@ class Gateway(Server):
 
     async def listen(self, host: str = "127.0.0.1", port: int = 0) -> int:
         """Starts to answer requests, and returns the port."""
-        app, publisher = (
-            web.Application(middlewares=[self.answer, self.guard.check, self.sort]),
-            self.publisher,
-        )
+        app, publisher = web.Application(middlewares=[self.answer, self.guard.check, self.sort]), self.publisher
         app.on_response_prepare.extend([self.guard.share, self.guard.keep])
         app.add_routes([web.put("/v1/blobs", self.folders.put_file, expect_handler=expected)])
         app.add_routes([web.post("/v1/bundles", publisher.post_bundle, expect_handler=expected)])
