@@ -16,7 +16,7 @@ from walrus import client
 from walrus.network import places, trees
 from walrus.network.local import find_program
 from walrus.network.manifest import MARK, Manifest, Place
-from walrus.network.transfers import Failure
+from walrus.network.transfers import PART, Failure
 
 
 class Places(unittest.TestCase):
@@ -84,7 +84,7 @@ class Trees(unittest.IsolatedAsyncioTestCase):
         self.tree, self.out, self.walrus = self.top / "tree", self.top / "out", client.Walrus(find_program())
         self.files, self.asked, self.puts, self.lie = dict[str, bytes](), list[str](), list[str](), None
         self.lie: Optional[bytes]
-        self.pause, self.beside, self.least = 0.0, 0, 0
+        self.pause, self.beside, self.least, self.hangs = 0.0, 0, 0, False
         app = web.Application(client_max_size=2**30)
         app.add_routes([web.get("/v1/status", self.status), web.get("/v1/blobs/{name}", self.give)])
         app.add_routes([web.put("/v1/blobs", self.take), web.get("/v1/status/{name}", self.status_of)])
@@ -107,6 +107,11 @@ class Trees(unittest.IsolatedAsyncioTestCase):
         self.asked.append(name)
         if name not in self.files:
             return web.json_response({"error": {"status": 404, "text": "no such blob"}}, status=404)
+        if self.hangs and len(self.files[name]) > PART:
+            begun = web.StreamResponse(headers={"Content-Length": str(len(self.files[name]))})
+            await begun.prepare(request)
+            await begun.write(self.files[name][:PART])
+            await asyncio.sleep(600)
         return web.Response(body=self.files[name])
 
     async def take(self, request: web.Request) -> web.Response:
@@ -188,6 +193,16 @@ class Trees(unittest.IsolatedAsyncioTestCase):
         async with asyncio.timeout(120):
             name = await self.store()
         self.assertEqual((self.puts[-1], len(self.puts)), (name, 7))
+
+    async def test_a_part_that_fails_ends_the_others_which_leave_nothing(self) -> None:
+        files = {str(number): bytes([number]) * 2 * PART for number in range(trees.WIDTH)}
+        self.write(files)
+        name = await self.store()
+        del self.files[await self.add(files["3"])]
+        self.hangs = True
+        async with asyncio.timeout(60):
+            self.assertIn("no such blob", await self.run_net("fetch", name, "--output", self.out, status=4))
+        self.assertEqual(self.found(self.out), {})
 
     async def test_a_terminal_shows_how_far_it_is(self) -> None:
         self.write(site())
