@@ -189,6 +189,22 @@ class Trees(unittest.IsolatedAsyncioTestCase):
             name = await self.store()
         self.assertEqual((self.puts[-1], len(self.puts)), (name, 7))
 
+    async def test_a_file_that_changes_meanwhile_never_becomes_the_contents_of_an_equal_one(self) -> None:
+        self.write({"a": b"0", "b": b"0", "large": bytes(600_000)})
+        self.pause = 0.5  # while the large file is sent, all small ones are read already
+
+        async def change() -> None:
+            while not self.beside:
+                await asyncio.sleep(0.02)
+            self.write({"a": b"1"})
+
+        changing = asyncio.create_task(change())
+        said = await self.run_net("store", self.tree, "--epochs", "5", status=1)
+        await changing
+        self.assertIn("changed while it was stored: store the folder again", said)
+        self.assertEqual(len(self.puts), 1)
+        self.assertEqual([it.path for it in Manifest(self.files[await self.store()])], ["a", "b", "large"])
+
     async def test_a_terminal_shows_how_far_it_is(self) -> None:
         self.write(site())
         self.pause = 1.5
