@@ -97,6 +97,8 @@ class Lister:
         async def register(piece: bytes) -> None:
             nonlocal done
             await self.network.register(piece, until)
+            if not self.network.ledger.certificate(piece):  # its time was over, so it was registered as a new blob
+                raise Problem(404, "its time ended before it was kept for longer: store it again")
             done += 1
 
         try:
