@@ -126,10 +126,18 @@ class Faults(FolderGatewayCase):
             name = name_of(b"no folder %d" % number).hex()
             self.files[name] = b"no folder %d" % number
             self.assertEqual((await self.get(f"/v1/folders/{name}/"))[0], 404)
-        self.assertEqual(([*kept.kept][:3], len(kept.kept)), (before, 6))
-        for it in [*kept.kept][3:]:
-            del kept.kept[it]
-        self.assertEqual(kept.size, sum(len(it.result().data) for it in kept.kept.values()))
+        self.assertEqual(([*kept.kept], len(kept.none)), (before, 3))
+        data = manifest_of(Place("last", "a/b", 0, b""))
+        self.files[name_of(data).hex()] = data
+        self.enterContext(unittest.mock.patch.object(shelf, "ROOM", len(data)))
+        self.assertEqual((await self.get(f"/v1/folders/{name_of(data).hex()}/last"))[0], 200)
+        self.assertEqual([*kept.kept], [name_of(data)])
+        reads = self.gateway.reader.cache.reads
+        empty = name_of(MARK)
+        self.files[empty.hex()] = MARK
+        for _ in range(2):
+            self.assertEqual((await self.get(f"/v1/folders/{empty.hex()}/"))[0], 200)
+        self.assertEqual((self.gateway.reader.cache.reads, [*kept.kept]), (reads + 1, [empty]))
 
     async def test_what_is_certified_of_a_folder_that_fails_is_told(self) -> None:
         await self.start()

@@ -101,7 +101,7 @@ class Harm(HarmCase):
                     await asyncio.sleep(0.01)
                 await asyncio.sleep(0.2)
                 asked.append(asyncio.create_task(self.ask("GET", path.format(names[40]), headers=bob)))
-                while names[40] not in read and bytes.fromhex(names[40]) not in self.gateway.shelf.kept:
+                while names[40] not in read and bytes.fromhex(names[40]) not in self.gateway.shelf.loading:
                     await asyncio.sleep(0.01)  # Bob's request is on its way
                 while names[40] not in read:
                     goes_on.release()

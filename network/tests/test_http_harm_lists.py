@@ -32,7 +32,7 @@ class Lists(HarmCase):
             with mock.patch.object(shelf.mmap, "mmap", Map):
                 found = [(await self.ask("GET", f"/v1/folders/{name}/"))[0] for _ in range(2)]
             self.assertEqual(found, [410 if front == MARK else 404] * 2)
-            self.assertIn(bytes.fromhex(name), self.gateway.shelf.kept)
+            self.assertIn(bytes.fromhex(name), self.gateway.shelf.none)
         gc.collect()
         self.assertEqual([it() for it in made], [None])
 

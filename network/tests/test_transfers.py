@@ -104,6 +104,10 @@ class Transfers(TransferCase):
         for words, data in (((self.out,), b""), (("-",), b"first")):
             out, _ = await self.run_net("store", *words, "--epochs", "1", data=data)
             self.assertIn(self.named.encode(), out)
+        version = pathlib.Path("/proc/version").read_bytes()  # of a file that says that it is empty
+        self.named = (await self.id(version)).hex()
+        self.assertIn(self.named.encode(), (await self.run_net("store", "/proc/version", "--epochs", "1"))[0])
+        self.assertEqual(self.bodies[-1], version)
         _, said = await self.run_net("store", second, "--epochs", "1", status=1)
         self.assertIn(f"the file is {(await self.id(b'second file')).hex()}", said)
         frames = b"".join(map(client.envelope, (b"first", b"second file")))

@@ -11,8 +11,10 @@ from unittest import mock
 
 import harness  # noqa: F401  # which says where walrus is
 from walrus import audit, client
-from walrus.network import page
+from walrus.network import announcing, entries, page, transfers
+from walrus.network.blobs import Blob
 from walrus.network.client import Network
+from walrus.network.exposure import Options
 from walrus.network.ledger import OPERATOR, Entry, Ledger, entry_key
 from walrus.network.pieces import Memory
 from walrus.network.problems import Problem
@@ -38,13 +40,13 @@ class Challenges(unittest.IsolatedAsyncioTestCase):
             *((it, "ack", 0, NAME.hex()) for it in "abc"),
         ):
             self.assertTrue(self.ledger.apply(Entry(self.ledger.revision + 1, entry_key(poster, kind, *fields))))
-        network: Any = types.SimpleNamespace(ledger=self.ledger, walrus=None)
+        network: Any = types.SimpleNamespace(ledger=self.ledger, walrus=None, authority=pathlib.Path("authority"))
         self.enterContext(mock.patch.object(page, "Peers"))
         self.enterContext(mock.patch.object(page.Watch, "ask", self.ask))
         self.enterContext(mock.patch.object(page.Watch, "seat", lambda *_: types.SimpleNamespace(number=0)))
         self.enterContext(mock.patch.object(page.Watch, "proves", mock.AsyncMock(return_value=False)))
         self.memory = Memory(4 * page.need_of(1))
-        self.watch = page.Watch(network, self.memory, pathlib.Path("authority"), 0.0001, 0.0001, 60)
+        self.watch = page.Watch(network, self.memory, Options(probe=0.0001, challenge=0.0001, stale=60))
         self.watch.peers = mock.AsyncMock()
         self.addAsyncCleanup(self.watch.close)
 
@@ -101,6 +103,26 @@ class Challenges(unittest.IsolatedAsyncioTestCase):
             await asyncio.gather(*tasks)
         self.assertEqual((len(running), self.memory.taken, self.watch.held["held"]), (12, 0, 12))
 
+    async def test_clients_read_the_longest_status(self) -> None:
+        """That of a handover to 1,000 other nodes, with names as long as an entry has room for."""
+        ledger, faults, each = Ledger(), entries.MOST_FAULTS, range(3 * entries.MOST_FAULTS + 1)
+        nodes = [[f"{epoch}{number:04}".rjust(15, "n") for number in each] for epoch in range(2)]
+        for epoch, names in enumerate(nodes):
+            self.assertTrue(
+                ledger.apply(Entry(epoch + 1, entry_key(OPERATOR, "begin", epoch, faults, ",".join(names))))
+            )
+        blob = Blob(9, "x").voted(entries.ACK, 0, frozenset(each), ledger.quorum)
+        for number in range(page.RECENT):
+            ledger.blobs[number.to_bytes(32, "big")] = blob
+        self.watch.network.ledger = ledger
+        self.enterContext(mock.patch.object(self.watch, "away", return_value={"stale": False, "place": 1}))
+        self.watch.faults = dict.fromkeys(sum(nodes, []), "")
+        told = {group: dict.fromkeys(names, 2.0**62) for group, names in page.FIGURE_NAMES.items()}
+        self.watch.figures = dict.fromkeys(self.watch.faults, told)
+        said = "; ".join(f"shard {it}: {'it is not reached within 10 seconds'.ljust(60)}" for it in each)
+        self.watch.announced = [{"blob": NAME.hex(), "invalid": False, "said": said}] * announcing.TOLD
+        self.assertLess(len(self.watch.status_text()), transfers.MOST_JSON)
+
     async def test_nodes_are_asked_while_a_blob_is_long_in_coming_and_whatever_it_comes_to(self) -> None:
         learned, goes_on = list[object](), asyncio.Event()
 
@@ -110,7 +132,7 @@ class Challenges(unittest.IsolatedAsyncioTestCase):
             raise RuntimeError("can't start new thread")
 
         sorter: Any = types.SimpleNamespace(learn=learn, files=list)
-        watch = page.Watch(self.watch.network, self.memory, pathlib.Path("authority"), 0.0001, 0, 60, sorter)
+        watch = page.Watch(self.watch.network, self.memory, Options(probe=0.0001, challenge=0, stale=60), sorter)
         watch.peers = mock.AsyncMock()
         self.addAsyncCleanup(watch.close)
         await self.watch.close()

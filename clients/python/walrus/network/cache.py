@@ -11,10 +11,8 @@ from .. import client
 
 from .pieces import is_away
 
-LEAST, TIMES = (
-    8_388_608,
-    64,
-)  # how blobs count towards the room: the least for one in a file; the factor for bytes in memory
+# How blobs count towards the room: the least for one in a file; the factor for bytes in memory.
+LEAST, TIMES = 8_388_608, 64
 EXTRA = TIMES * 1_024  # what an entry counts for beside its blob, as it is in memory
 LASTING = client.BadlyEncoded, client.NoBundle  # faults of the blob itself, which stay
 
@@ -99,7 +97,7 @@ class Cache:
                 return await self.read(identifier, size)
             except LASTING as fault:
                 told = afresh(fault)
-        raise told
+        raise told  # not in the `except` clause, as `fault` would be its context
 
     def loaded(self, identifier: bytes, entry: Entry, task: "asyncio.Task[bytes]") -> None:
         self.freed.set()

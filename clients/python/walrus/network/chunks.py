@@ -157,7 +157,8 @@ class Writer:
             spool.close()
 
     async def bundle(self, data: bytes, members: list[Told]) -> tuple[bytes, list[Told]]:
-        """Returns the bundle of these files, as a mapped file without a name, and `members` unchanged."""
+        """Returns the bundle of these files, as a mapped file without a name, and `members` unchanged: a caller that
+        takes both from `gather` keeps no reference to `data`."""
         faults, ends = self.network.ledger.faults, itertools.accumulate(it["size"] for it in members)
         files = [memoryview(data)[end - it["size"] : end] for end, it in zip(ends, members)]  # noqa: E203
         async with self.memory.share(pieces.need_of(len(data), faults)):

@@ -4,18 +4,18 @@ import collections
 import json
 import pathlib
 import time
-from typing import Any, Callable, Coroutine, NamedTuple, Optional, Sequence, TypeVar, Union
+from typing import Any, Callable, NamedTuple, Optional, Sequence, Union
 
 from .. import bundles, client
 
 from .follower import Recorders, Unreachable, View
+from .groups import all_of
 from .ledger import Ledger, entry_key
 from .peers import Peers, Seat
 from .program import Calls
 from .state import State
 from .whole import request_of
 
-Result = TypeVar("Result")
 GRACE, LATE = 0.1, 10.0  # least seconds for slower nodes once a blob is certified; most seconds for those left behind
 BEHIND = 16_777_216  # bytes that may be under way to a node that is left behind; or one blob of any length
 FEW = 3  # faults up to which a short call of the program takes little longer than starting a thread for it
@@ -132,8 +132,8 @@ class Network(View):
 
             done = asyncio.Event()
             storing = self.put_all(encoded, seats, is_over, done)
-            words = await self.both(self.registered(identifier, until, done), storing)
-            said = {number: text for number, text in words.items() if text}
+            _, words = await all_of([self.registered(identifier, until, done), storing])
+            said = {number: text for number, text in (words or {}).items() if text}
             pause = 2**attempt / 2 if len(seats) - len(said) < self.ledger.quorum else 10
             await self.until(is_over, pause)
             if found := self.ledger.certificate(identifier):
@@ -146,17 +146,6 @@ class Network(View):
         if blob is None or blob.until < until:
             await self.register(identifier, until)
         done.set()
-
-    @staticmethod
-    async def both(first: Coroutine[Any, Any, None], second: Coroutine[Any, Any, Result]) -> Result:
-        """Runs both at once and returns the second's result; if the first fails, the second is cancelled."""
-        task = asyncio.create_task(second)
-        try:
-            await first
-            return await task
-        finally:
-            task.cancel()
-            await asyncio.gather(task, return_exceptions=True)
 
     async def put_all(
         self,

@@ -4,7 +4,7 @@ import json
 import os
 import pathlib
 import sys
-from typing import Any
+from typing import Any, Awaitable, Callable, Optional
 
 import aiohttp
 from .. import client, loop
@@ -78,42 +78,62 @@ def tell_status(told: dict[str, Any]) -> str:
     return "\n".join([*map(clean, lines), *map(tell_blob, told["recent"][:10])])
 
 
-async def remotely(words: argparse.Namespace, session: aiohttp.ClientSession) -> int:
-    """Runs a command that a gateway answers, and returns the exit status."""
-    if words.command == "fetch":
-        told = await fetch_any(session, words.id, words.output, words.only)
-        if words.json:
-            print(json.dumps({"blobId": words.id, **told}), file=sys.stderr)
-        return 0
-    if words.command in ("list", "expiring"):
-        async for told in listed(session, words.within):
-            print(json.dumps(told) if words.json else tell_blob(told))
-        return 0
-    if words.command in ("store", "extend") and words.epochs is None:
-        words.epochs = epochs_for(await ask(session, "GET", "/v1/status"), words.time)
-    if words.command == "extend":
-        for name in words.id:
-            told = await ask(session, "PUT", f"/v1/blobs/{name}", params={"epochs": words.epochs})
-            print(json.dumps(told) if words.json else tell_blob(told), flush=True)
-        return 0
-    for path in [""] if words.command != "store" or words.bundle else words.file:
-        if words.command == "store" and words.bundle:
-            told = await store_bundle(session, words.file, words.epochs)
-            members = [clean(f"{it['id']} {it['name']}") for it in told["members"]]
-            text = "\n".join([tell_blob(told), *members])
-        elif words.command == "store":
-            way = store_folder if os.path.isdir(path) else store if os.path.isfile(path) else store_piped
-            way = store_piped if path == "-" else way  # a file of that name is ./-
-            told = {"file": path, **await way(session, path, words.epochs)}
-            text = f"{tell_blob(told)} {path}"
-        elif words.command == "status":
-            told = await ask(session, "GET", f"/v1/status/{words.id}".rstrip("/"))
-            text = tell_blob(told) if words.id else tell_status(told)
-        else:
-            told = await ask(session, "PUT", f"/v1/challenges/{words.id}/{words.node}")
-            text = clean(f"{words.node} {'holds' if told['holds'] else 'lacks'} it: {told['said']}")
-        print(json.dumps(told) if words.json else text, flush=True)
-    return 0 if told.get("holds", True) else 3
+def tell(words: argparse.Namespace, told: dict[str, Any], text: str) -> None:
+    """Prints the answer to a command: as JSON, or in words."""
+    print(json.dumps(told) if words.json else text, flush=True)
+
+
+async def run_store(words: argparse.Namespace, session: aiohttp.ClientSession) -> None:
+    if words.bundle:
+        told = await store_bundle(session, words.file, words.epochs)
+        members = [clean(f"{it['id']} {it['name']}") for it in told["members"]]
+        tell(words, told, "\n".join([tell_blob(told), *members]))
+        return
+    for path in words.file:
+        way = store_folder if os.path.isdir(path) else store if os.path.isfile(path) else store_piped
+        way = store_piped if path == "-" else way  # a file of that name is ./-
+        told = {"file": path, **await way(session, path, words.epochs)}
+        tell(words, told, f"{tell_blob(told)} {path}")
+
+
+async def run_fetch(words: argparse.Namespace, session: aiohttp.ClientSession) -> None:
+    told = await fetch_any(session, words.id, words.output, words.only)
+    if words.json:
+        print(json.dumps({"blobId": words.id, **told}), file=sys.stderr)
+
+
+async def run_list(words: argparse.Namespace, session: aiohttp.ClientSession) -> None:
+    async for told in listed(session, words.within):
+        print(json.dumps(told) if words.json else tell_blob(told))
+
+
+async def run_extend(words: argparse.Namespace, session: aiohttp.ClientSession) -> None:
+    for name in words.id:
+        told = await ask(session, "PUT", f"/v1/blobs/{name}", params={"epochs": words.epochs})
+        tell(words, told, tell_blob(told))
+
+
+async def run_status(words: argparse.Namespace, session: aiohttp.ClientSession) -> None:
+    told = await ask(session, "GET", f"/v1/status/{words.id}".rstrip("/"))
+    tell(words, told, tell_blob(told) if words.id else tell_status(told))
+
+
+async def run_challenge(words: argparse.Namespace, session: aiohttp.ClientSession) -> int:
+    told = await ask(session, "PUT", f"/v1/challenges/{words.id}/{words.node}")
+    tell(words, told, clean(f"{words.node} {'holds' if told['holds'] else 'lacks'} it: {told['said']}"))
+    return 0 if told["holds"] else 3
+
+
+# Commands that a gateway answers; each returns its exit status, or None for 0.
+RUNS: dict[str, Callable[[argparse.Namespace, aiohttp.ClientSession], Awaitable[Optional[int]]]] = {
+    "store": run_store,
+    "fetch": run_fetch,
+    "list": run_list,
+    "expiring": run_list,
+    "extend": run_extend,
+    "status": run_status,
+    "challenge": run_challenge,
+}
 
 
 def add_epochs(sub: argparse.ArgumentParser) -> None:
@@ -170,7 +190,9 @@ async def run(words: argparse.Namespace) -> int:
     headers = {"Accept-Encoding": "identity"}  # a few compressed bytes of a liar may become many
     headers |= {"Authorization": f"Bearer {token}"} if token else {}
     async with aiohttp.ClientSession(words.gateway, timeout=limit, headers=headers, auto_decompress=False) as session:
-        return await remotely(words, session)
+        if words.command in ("store", "extend") and words.epochs is None:
+            words.epochs = epochs_for(await ask(session, "GET", "/v1/status"), words.time)
+        return await RUNS[words.command](words, session) or 0
 
 
 def finish(words: argparse.Namespace) -> int:

@@ -5,8 +5,8 @@ from typing import Any
 
 
 @dataclasses.dataclass
-class Exposure:
-    """How a gateway is exposed. By default it stores only for its own machine."""
+class Options:
+    """What a gateway may use, and who may reach it and how. By default it stores only for its own machine."""
 
     tokens: str = ""  # the file of tokens; if empty, FOLDER/tokens.json
     used: str = ""  # the database of what tokens have used; if empty, one beside the tokens
@@ -18,12 +18,6 @@ class Exposure:
     log: str = ""  # the file of the access log; - is standard output
     requests: float = 1_000.0  # per second, of a token and of an address; unlimited if 0
     rate: float = 0.0  # bytes per second, of a token and of an address; unlimited if 0
-
-
-@dataclasses.dataclass
-class Options(Exposure):
-    """What a gateway may use, how long it tries, and how it is exposed."""
-
     memory: int = 268_435_456  # bytes of memory for the whole gateway
     room: int = 2_147_483_648  # bytes of disk for blobs that are read, sent or cached
     reserve: float = 0.05  # the fraction of the disk that uploads leave free
@@ -47,13 +41,13 @@ WORDS: dict[str, tuple[Any, str]] = {
     "key": ("", "the file with the key of the certificate"),
     "sites": ("", "the host under which each folder has a host of its own, as LABEL.HOST"),
     "log": ("", "the file of the access log; - is standard output"),
-    "requests": (Exposure.requests, "the most requests per second of a token or of an address; 0 is unlimited"),
-    "rate": (Exposure.rate, "the most bytes per second of a token or of an address, in and out; 0 is unlimited"),
+    "requests": (Options.requests, "the most requests per second of a token or of an address; 0 is unlimited"),
+    "rate": (Options.rate, "the most bytes per second of a token or of an address, in and out; 0 is unlimited"),
 }
 
 
 def chosen(words: argparse.Namespace) -> dict[str, Any]:
-    """Returns the options of `Exposure` that a command line sets; raises `ValueError` if they contradict."""
+    """Returns the options that these words of a command line set; raises `ValueError` if they contradict."""
     if bool(words.certificate) != bool(words.key):
         raise ValueError("--certificate and --key go together")
     lists = {name: [it for it in getattr(words, name).split(",") if it] for name in ("names", "proxies")}

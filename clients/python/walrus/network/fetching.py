@@ -1,20 +1,20 @@
 """Fetches folders from a gateway, which is not trusted: all is checked by its identifier before it takes its place."""
 import errno
-import functools
 import os
 import pathlib
 import tempfile
-from typing import IO, Any
+from typing import IO, Any, Coroutine, Iterator
 
 import aiohttp
 
 from .checked import Naming, is_named, written_whole
 from .chunks import PIECE
+from .groups import several
 from .manifest import MARK, MOST_BYTES, Manifest, Place, Wrong, shown
 from .partial import beside
 from .places import Root, is_equal
 from .transfers import BY_STATUS, PART, Bar, Failure, fetch, naming_of, parts_of, receive
-from .trees import Work, several
+from .trees import WIDTH
 
 
 class Fetching:
@@ -34,8 +34,8 @@ class Fetching:
 
     async def receive(self, name: bytes, most: int, out: IO[bytes]) -> int:
         """Writes the file of an identifier, of at most `most` bytes, and returns its length."""
-        naming, limited = Naming(self.walrus, self.faults), Limited(out, most)
-        size = await receive(self.session, name.hex(), limited, naming, self.bar)  # type: ignore[arg-type]
+        naming = Naming(self.walrus, self.faults)
+        size = await receive(self.session, name.hex(), out, naming, self.bar, most=most)
         if not await is_named(out, name, naming):
             raise Failure(f"what the gateway gives is not {name.hex()}, and is dropped: this gateway lies", 1)
         return size
@@ -87,30 +87,17 @@ class Fetching:
             out.write(data)
         self.written += 1
 
-    async def fetch_all(self, places: list[Place]) -> None:
-        packs, works = dict[bytes, list[Place]](), list[Work]()
+    def works(self, places: list[Place]) -> Iterator[Coroutine[Any, Any, None]]:
+        """Yields the coroutines that fetch each large file, and each pack; writes empty files meanwhile."""
+        packs = dict[bytes, list[Place]]()
         for place in places:
             if not place.length:
                 self.write(place.path, b"")
             elif place.offset is None:
-                works.append(functools.partial(self.fetch_whole, place))
+                yield self.fetch_whole(place)
             else:
                 packs.setdefault(place.file, []).append(place)
-        works += [functools.partial(self.fetch_pack, name, some) for name, some in packs.items()]
-        await several(works)
-
-
-class Limited:
-    """A file that accepts at most `most` bytes, in case a gateway sends without end."""
-
-    def __init__(self, file: IO[bytes], most: int):
-        self.file, self.left = file, most
-
-    def write(self, data: bytes) -> int:
-        self.left -= len(data)
-        if self.left < 0:
-            raise Failure("the gateway gives more bytes than the folder's manifest says", 3)
-        return self.file.write(data)
+        yield from (self.fetch_pack(*it) for it in packs.items())
 
 
 def wanted(manifest: Manifest, only: str) -> list[Place]:
@@ -136,7 +123,7 @@ async def fetch_folder(session: aiohttp.ClientSession, data: bytes, output: str,
         with Root(output) as root, Bar(os.path.basename(output.rstrip("/")), size) as bar:
             root.must_keep_apart([it.path for it in places])
             fetching = Fetching(session, await naming_of(session), root, bar)
-            await fetching.fetch_all(places)
+            await several(fetching.works(places), WIDTH)
     except OSError as fault:
         if fault.errno not in (errno.ELOOP, errno.ENOTDIR, errno.EISDIR, errno.EEXIST):
             raise

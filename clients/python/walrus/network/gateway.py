@@ -81,32 +81,27 @@ class Gateway(Server):
 
     def __init__(self, network: Network, folder: pathlib.Path, options: Optional[Options] = None):
         super().__init__()
-        self.network, self.options = network, options or Options()
-        options = self.options
+        self.network = network
+        options = self.options = options or Options()
         tokens, default, used = places(folder, options.tokens, options.used)
         self.guard = Guard(options, Tokens(tokens, default, used))
         self.reader = Reader(network, options)
         self.shelf = Shelf(self.reader)
         self.lister = Lister(network, self.reader, self.shelf)
-        self.publisher = Publisher(network, self.reader, self.lister, options)
+        self.publisher = Publisher(network, self.reader, self.lister, options, used)
         self.folders = Folders(self.reader, self.publisher, self.shelf, options.sites)
         self.uploads = Uploads(self.publisher)
         self.announcer = Announcer(network, self.reader.memory)
         self.reader.rejected = self.announcer.hear
-        sorter, memory = Sorter(self.reader), self.reader.memory
-        self.watch = Watch(network, memory, network.authority, options.probe, options.challenge, options.stale, sorter)
+        self.watch = Watch(network, self.reader.memory, options, Sorter(self.reader))
         self.watch.announced, self.times = self.announcer.findings, Times()
         self.requests: "collections.Counter[str]" = collections.Counter()
-        self.publisher.used = str(used)
         self.certificate = Certificate(options.tls_certificate, options.tls_key) if options.tls_certificate else None
         self.log, self.each = log_to(options.log), collections.Counter[str]()
 
     async def listen(self, host: str = "127.0.0.1", port: int = 0) -> int:
         """Starts to answer requests, and returns the port."""
-        app, publisher = (
-            web.Application(middlewares=[self.answer, self.guard.check, self.sort]),
-            self.publisher,
-        )
+        app, publisher = web.Application(middlewares=[self.answer, self.guard.check, self.sort]), self.publisher
         app.on_response_prepare.extend([self.guard.share, self.guard.keep])
         app.add_routes([web.put("/v1/blobs", self.folders.put_file, expect_handler=expected)])
         app.add_routes([web.post("/v1/bundles", publisher.post_bundle, expect_handler=expected)])

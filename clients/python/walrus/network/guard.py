@@ -54,10 +54,10 @@ class Crowd:
 class Guard:
     """The access rules of a gateway."""
 
-    def __init__(self, exposure: Options, tokens: Tokens):
-        self.exposure, self.tokens, self.crowd = exposure, tokens, Crowd(exposure.connections)
-        self.limits = Limits(exposure.requests, exposure.rate)
-        self.names, self.proxies = {it.lower() for it in exposure.names}, {*exposure.proxies}
+    def __init__(self, options: Options, tokens: Tokens):
+        self.tokens, self.crowd, self.sites = tokens, Crowd(options.connections), options.sites
+        self.limits = Limits(options.requests, options.rate)
+        self.names, self.proxies = {it.lower() for it in options.names}, {*options.proxies}
 
     def address(self, request: web.BaseRequest) -> str:
         """Returns the client's address: what a trusted proxy says, or else the other end of the connection."""
@@ -178,7 +178,7 @@ class Guard:
         """Makes shared caches keep nothing for which a token had to be shown; and if folders have hosts of their own,
         keep the responses of different hosts apart (`Vary: Host`)."""
         told, known = response.headers.get(hdrs.CACHE_CONTROL, ""), self.tokens.all()
-        if self.exposure.sites and "no-store" not in told:
+        if self.sites and "no-store" not in told:
             response.headers[hdrs.VARY] = ", ".join([*response.headers.getall(hdrs.VARY, []), hdrs.HOST])
         if told.startswith("public") and not (known is None or ANYONE in known and READ in known[ANYONE].rights):
             response.headers[hdrs.CACHE_CONTROL] = told.replace("public", "private", 1)

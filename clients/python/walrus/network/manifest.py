@@ -4,6 +4,7 @@ A manifest is a mark, then a line for each file: path, media type, length and pl
 ascending order of their bytes. docs: network/HTTP.md, "Folders"."""
 import array
 import base64
+import bisect
 import re
 from typing import Iterable, Iterator, NamedTuple, Optional, Union
 
@@ -183,15 +184,11 @@ class Manifest:
 
     def first(self, text: bytes) -> int:
         """Returns the number of the first line that does not sort before a text."""
-        low, high = 0, len(self.starts)
-        while low < high:
-            middle = (low + high) // 2
-            start = self.starts[middle]
-            if bytes(self.data[start : start + len(text)]) < text:  # noqa: E203
-                low = middle + 1
-            else:
-                high = middle
-        return low
+
+        def front(start: int) -> bytes:
+            return bytes(self.data[start : start + len(text)])  # noqa: E203
+
+        return bisect.bisect_left(self.starts, text, key=front)
 
     def starts_with(self, number: int, text: bytes) -> bool:
         start = self.starts[number] if number < len(self) else len(self.data)

@@ -3,7 +3,6 @@ import asyncio
 import collections
 import itertools
 import json
-import pathlib
 import random
 import sys
 import time
@@ -15,6 +14,7 @@ from ..shards import Asked
 from . import health
 from .client import Network
 from .dates import calendar_of, date_of
+from .exposure import Options
 from .follower import AWAY
 from .groups import all_of
 from .ledger import ACK, ATTEST
@@ -69,19 +69,11 @@ class Watch:
     """Checks regularly whether nodes answer, and challenges one at times to show symbols of a blob that it should hold.
     Its task (`task`) runs until `close`."""
 
-    def __init__(
-        self,
-        network: Network,
-        memory: Memory,
-        authority: pathlib.Path,
-        pause: float,
-        challenges: float,
-        stale: float,
-        sorter: Optional[Sorter] = None,
-    ):
-        self.network, self.pause, self.between, self.stale, self.sorter = network, pause, challenges, stale, sorter
+    def __init__(self, network: Network, memory: Memory, options: Options, sorter: Optional[Sorter] = None):
+        self.network, self.options, self.sorter = network, options, sorter
         self.memory, self.turns = memory, Turns(CHALLENGES)
-        self.peers = Peers(network.ledger, authority, 10)  # its own, so that no check waits behind a long transfer
+        # Its own, so that no check waits behind a long transfer.
+        self.peers = Peers(network.ledger, network.authority, 10)
         self.faults, self.figures = dict[str, str](), dict[str, Figures]()
         self.findings: "collections.deque[Finding]" = collections.deque(maxlen=FINDINGS)
         self.held: "collections.Counter[str]" = collections.Counter()
@@ -108,7 +100,7 @@ class Watch:
     async def probe(self) -> None:
         while True:
             await all_of(map(self.ask, self.nodes()))
-            await asyncio.sleep(self.pause)
+            await asyncio.sleep(self.options.probe)
 
     async def learn(self) -> None:
         """Finds out which of the last blobs are files. This runs separately, as reading one may take minutes."""
@@ -117,7 +109,7 @@ class Watch:
                 await self.sorter.learn(self.last())
             except Exception as fault:  # whatever a blob has, as in `challenge_some`
                 print(f"a blob's length is not known: {fault}", file=sys.stderr, flush=True)
-            await asyncio.sleep(self.pause)
+            await asyncio.sleep(self.options.probe)
 
     def last(self) -> list[bytes]:
         """Returns the last blobs, newest first, without pieces of files as far as they are known."""
@@ -130,7 +122,7 @@ class Watch:
     def away(self) -> dict[str, Any]:
         """Returns for how long the ledger was not heard, whether that is too long and why, and its last place."""
         seconds = self.network.silence()
-        stale = seconds > self.stale
+        stale = seconds > self.options.stale
         said = f"no recorder tells it: {self.network.recorders.said}" if stale else ""
         told = {"away": round(seconds, 1) if seconds > AWAY else 0.0, "stale": stale, "said": said}
         return {**told, "place": self.place()}
@@ -154,8 +146,8 @@ class Watch:
             self.faults[name] = str(fault)
 
     async def challenge_some(self) -> None:
-        while self.between:
-            await asyncio.sleep(self.between)
+        while self.options.challenge:
+            await asyncio.sleep(self.options.challenge)
             ledger = self.network.ledger
             drawn = [it for it in (ledger.blobs.draw(DRAWN) for _ in range(DRAWS)) if it and ledger.certificate(it)]
             try:

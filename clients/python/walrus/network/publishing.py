@@ -57,11 +57,11 @@ def must_be_plain(request: web.Request) -> None:
 class Publisher:
     """Stores files. `used` is the path of the database of what tokens have used."""
 
-    def __init__(self, network: Network, reader: Reader, lister: Lister, options: Options):
+    def __init__(self, network: Network, reader: Reader, lister: Lister, options: Options, used: pathlib.Path):
         self.network, self.reader, self.lister, self.options = network, reader, lister, options
         self.writer = Writer(network, reader.memory, options.turns, options.reserve)
         self.uploads = Turns(options.uploads)
-        self.used, self.shares = "", None  # type: str, Optional[Shares]
+        self.used, self.shares = used, None  # type: pathlib.Path, Optional[Shares]
 
     def close(self) -> None:
         if self.shares:
@@ -168,7 +168,7 @@ class Publisher:
         """Returns what counts the bytes and blobs of a request towards the share of its token, if it has one."""
         token = request["token"]
         if token and self.shares is None:
-            self.shares = Shares(pathlib.Path(self.used))
+            self.shares = Shares(self.used)
         return Charge(self.shares, token, self.network.ledger.writing_epoch)
 
     async def upload(

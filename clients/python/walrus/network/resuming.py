@@ -10,10 +10,9 @@ from typing import IO, Any, AsyncIterator, Optional
 
 import aiohttp
 
-from . import transfers
 from .checked import Naming, written_whole
-from .chunks import PIECE
-from .transfers import PART, TRIES, Bar, Failure, ask, check, json_of, must_name, naming_of, reason_of, sending
+from .chunks import LONGEST, PIECE
+from .transfers import PART, TRIES, Bar, Failure, ask, check, json_of, must_name, naming_of, put, reason_of, sending
 from .unfinished import IDLE
 
 KIND = "application/partial-upload"
@@ -29,7 +28,10 @@ class Known:
     """The file with the URLs of this user's unfinished uploads. Without it each command begins anew."""
 
     def __init__(self, key: list[Any]):
-        home = os.environ.get("XDG_STATE_HOME") or str(pathlib.Path.home() / ".local" / "state")
+        try:
+            home = os.environ.get("XDG_STATE_HOME") or str(pathlib.Path.home() / ".local" / "state")
+        except RuntimeError:
+            home = os.devnull  # this user has no home, and below this no file can be made
         self.path, self.key = pathlib.Path(home, "walrus", "uploads.json"), name_of(key)
 
     def read(self) -> dict[str, Any]:
@@ -60,19 +62,18 @@ def name_of(key: list[Any]) -> str:
 async def store(session: aiohttp.ClientSession, path: str, epochs: int) -> Any:
     """Stores a file; one of several pieces as a resumable upload. Returns the gateway's answer, and raises `Failure` if
     it names another identifier than the one computed here."""
-    if os.path.getsize(path) <= PIECE:
-        return await transfers.store(session, path, epochs)
-    naming = await naming_of(session)
-    async with session.get("/livez") as said:
-        origin = str(said.url.origin())
+    naming, told = await naming_of(session), None
     with open(path, "rb") as file, Bar(os.path.basename(path), os.fstat(file.fileno()).st_size) as bar:
-        found = os.fstat(file.fileno())
-        known = Known([origin, os.path.realpath(path), found.st_size, found.st_mtime_ns, epochs])
-        sending = Sending(session, file, naming, bar)
-        told = await sending.send(known, epochs)
-        if told is None:  # an older gateway without resumable uploads
-            return await transfers.store(session, path, epochs)
-        await sending.name(found.st_size)
+        sending, found = Sending(session, file, naming, bar), os.fstat(file.fileno())
+        if found.st_size > PIECE:
+            async with session.get("/livez") as said:
+                origin = str(said.url.origin())
+            known = Known([origin, os.path.realpath(path), found.st_size, found.st_mtime_ns, epochs])
+            if told := await sending.send(known, epochs):
+                await sending.name(found.st_size)
+        if not told:  # it is one piece, or the gateway is older and has no resumable uploads
+            sending.end = LONGEST  # up to the end of the file, whatever its length is said to be, as in /proc
+            told = await put(session, sending.parts(0), epochs)
     must_name(told, await naming.identifiers(), "the file")
     return told
 

@@ -3,10 +3,9 @@ import asyncio
 import collections
 import concurrent.futures
 import dataclasses
-import functools
 import mmap
 import tempfile
-from typing import Iterator, Sized, Union
+from typing import Iterator, Optional, Sized, Union
 
 from .chunks import MOST_PIECES, NAME, PIECE, File
 from .manifest import MARK, MOST_BYTES, Foreign, Manifest, Place, Wrong
@@ -44,71 +43,63 @@ class Shelf:
     """The manifests of folders, by identifier."""
 
     def __init__(self, reader: Reader):
-        self.reader, self.turn, self.size = reader, asyncio.Semaphore(1), 0
+        self.reader, self.turn = reader, asyncio.Semaphore(1)
         self.turns = Turns(WAITING, 1)  # of clients that wait for one to be read
-        self.kept: "collections.OrderedDict[bytes, asyncio.Task[Manifest]]" = collections.OrderedDict()
+        self.loading = dict[bytes, "asyncio.Task[None]"]()
+        self.kept: "collections.OrderedDict[bytes, Manifest]" = collections.OrderedDict()
+        self.none = dict[bytes, tuple[int, str]]()  # status and text of the error for what is no manifest
 
     async def manifest(self, name: bytes) -> Manifest:
         """Returns the manifest of a folder; raises `Problem` if it is none, or cannot be read."""
         self.reader.must_stand(name)
-        task = self.kept.get(name)
-        if not task or not task.done():
+        while (found := self.known(name)) is None:
             async with self.turns.take(ASKING.get()):
-                if not (task := self.kept.get(name)):
-                    task = self.kept[name] = asyncio.create_task(self.load(name))
-                    task.add_done_callback(functools.partial(self.loaded, name))
-                await asyncio.wait([task])
+                if self.known(name) is None:
+                    if name not in self.loading:
+                        self.loading[name] = asyncio.create_task(self.load(name))
+                    await asyncio.shield(self.loading[name])
+        return found
+
+    def known(self, name: bytes) -> Optional[Manifest]:
+        """Returns a manifest if it is kept, else None; raises `Problem` for what is known to be none."""
+        if name in self.none:
+            raise Problem(*self.none[name], manifest=False)
         if name in self.kept:
             self.kept.move_to_end(name)
-        return await asyncio.shield(task)
+        return self.kept.get(name)
 
-    def loaded(self, name: bytes, task: "asyncio.Task[Manifest]") -> None:
-        fault = None if task.cancelled() else task.exception()
-        if task.cancelled() or fault and not (isinstance(fault, Problem) and "manifest" in fault.more):
-            self.kept.pop(name, None)  # the next attempt may succeed
-        self.size += 0 if fault or task.cancelled() else len(task.result().data)
-        for is_none in (True, False):  # what is no manifest never displaces a manifest
-            done = [(it, other) for it, other in self.kept.items() if other.done() and not other.cancelled()]
-            same = [it for it, other in done if bool(other.exception()) == is_none]
-            while len(same) > MOST or self.size > ROOM and not is_none and len(same) > 1:
-                oldest = same.pop(0) if same[0] != name else same.pop(1)
-                dropped = self.kept.pop(oldest)
-                self.size -= 0 if is_none else len(dropped.result().data)
-
-    async def load(self, name: bytes) -> Manifest:
+    async def load(self, name: bytes) -> None:
+        """Reads what may be a manifest, and keeps it, or why it is none: what is none never displaces a manifest."""
         # In this task alone: other clients wait for it too, and must not wait behind all that the first one asks for.
         ASKING.set("folders")
-        async with self.turn:
-            try:
-                return await self.made(name)
-            except Problem as fault:
-                told = Problem(fault.status, str(fault), fault.headers, **fault.more)
-        raise told  # a new one is kept, as the other's traceback would keep all that was read
-
-    async def made(self, name: bytes) -> Manifest:
-        data = await self.read(name)
         try:
-            return await asyncio.get_running_loop().run_in_executor(LISTS, Manifest, data)
+            async with self.turn:
+                data = await self.read(name)
+                self.kept[name] = await asyncio.get_running_loop().run_in_executor(LISTS, Manifest, data)
         except Foreign:
-            raise Problem(404, NO_FOLDER, manifest=False) from None
+            self.none[name] = 404, NO_FOLDER
         except Wrong as fault:
-            raise Problem(410, f"the folder's manifest is malformed: {fault}", manifest=False) from None
+            self.none[name] = 410, f"the folder's manifest is malformed: {fault}"
+        finally:
+            del self.loading[name]
+        if len(self.none) > MOST:
+            del self.none[next(iter(self.none))]
+        while len(self.kept) > MOST or len(self.kept) > 1 and sum(len(it.data) for it in self.kept.values()) > ROOM:
+            self.kept.popitem(last=False)
 
     async def read(self, name: bytes) -> Union[bytes, memoryview]:
         """Returns the bytes of what may be a manifest, as a mapped file without a name if they are many."""
         async with self.reader.blob(name) as blob:
             file = File.of(name, blob)
-            if file.length <= PIECE and file.names == name and bytes(blob[: len(MARK)]) != MARK:
-                raise Problem(404, NO_FOLDER, manifest=False)
             if file.length <= SLIGHT and file.names == name:
                 return bytes(blob)
         with tempfile.TemporaryFile(buffering=0) as out:
             for piece, size, _, _ in file.pieces(0, file.length):
                 async with self.reader.blob(piece, size) as blob:
                     if not out.tell() and bytes(blob[: len(MARK)]) != MARK:
-                        raise Problem(404, NO_FOLDER, manifest=False)
+                        raise Foreign("it does not begin as a manifest does")
                     if file.length > MOST_BYTES:
-                        raise Problem(410, f"the folder's manifest has more than {MOST_BYTES} bytes", manifest=False)
+                        raise Wrong(f"it has more than {MOST_BYTES} bytes")
                     await to_the_end(write, out, memoryview(blob))
             return memoryview(mmap.mmap(out.fileno(), file.length, access=mmap.ACCESS_READ))
 
@@ -183,9 +174,10 @@ class Shelf:
                 await asyncio.sleep(0)
 
     async def close(self) -> None:
-        for task in self.kept.values():
+        tasks = [*self.loading.values()]
+        for task in tasks:
             task.cancel()
-        await asyncio.gather(*self.kept.values(), return_exceptions=True)
+        await asyncio.gather(*tasks, return_exceptions=True)
 
 
 def must_be_few(found: Sized, most: int) -> None:

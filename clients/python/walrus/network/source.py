@@ -18,11 +18,10 @@ class Source:
 
     async def fill(self) -> bool:
         """Buffers the next part of the stream; returns whether there was one."""
-        async for part in self.stream:
-            self.kept += part
-            return True
-        self.is_over = True
-        return False
+        part = await anext(self.stream, None)
+        self.kept += part or b""
+        self.is_over = part is None
+        return not self.is_over
 
     def take(self, size: int) -> bytes:
         taken = bytes(self.kept[:size])

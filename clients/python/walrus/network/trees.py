@@ -1,41 +1,20 @@
 """Sends folders of this machine to a gateway, which is not trusted: identifiers are computed here as well."""
-import functools
 import hashlib
 import os
 import stat
-from typing import Any, AsyncIterator, Awaitable, Callable, Iterable, Iterator
+from typing import Any, AsyncIterator, Callable, Iterator
 
 import aiohttp
 
 from .checked import Naming
 from .entries import LAST_UNTIL
-from .groups import all_of
+from .groups import several
 from .manifest import Wrong, as_path, label_of, shown
 from .packing import SMALL, Folder
 from .transfers import PART, Bar, Failure, ask, must_name, naming_of, put
 
 WIDTH = 4  # parts of a folder that are sent or fetched at once
-Work = Callable[[], Awaitable[None]]
 KINDS = {stat.S_IFLNK: "a link", stat.S_IFSOCK: "a socket", stat.S_IFIFO: "a pipe"}
-
-
-async def several(works: Iterable[Work]) -> None:
-    """Runs these, `WIDTH` at once, until all are done or one fails. What is under way then is completed, before the
-    first fault is raised."""
-    left, faults = iter(works), list[Exception]()
-
-    async def go_on() -> None:
-        for work in left:
-            try:
-                await work()
-            except Exception as fault:
-                faults.append(fault)
-            if faults:
-                return
-
-    await all_of(go_on() for _ in range(WIDTH))
-    if faults:
-        raise faults[0]
 
 
 def files_below(top: bytes, front: bytes = b"") -> Iterator[tuple[str, bytes]]:
@@ -127,12 +106,12 @@ class Sending:
         name, _ = await self.send(parts, shown(path))
         self.folder.add(path, size, name)
 
-    async def send_pack(self, number: int, pack: list[tuple[int, int, Any]]) -> None:
+    async def send_pack(self, number: int, pack: list[tuple[bytes, int, Any]]) -> None:
         data = b""
-        for _, length, place in pack:
+        for digest, _, place in pack:
             with open(place, "rb") as file:
                 found = file.read(SMALL + 1)
-            if len(found) != length:
+            if hashlib.sha256(found).digest() != digest:
                 raise Failure(f"{shown(place)} changed while it was stored: store the folder again", 1)
             data += found
         name, _ = await self.send(lambda: iter([data]), "a pack of small files")
@@ -140,8 +119,8 @@ class Sending:
 
     async def send_all(self, top: bytes) -> Any:
         large = self.look(top)
-        await several(functools.partial(self.send_large, *it) for it in large)
-        await several(functools.partial(self.send_pack, number, it) for number, it in enumerate(self.folder.packs()))
+        await several((self.send_large(*it) for it in large), WIDTH)
+        await several((self.send_pack(*it) for it in enumerate(self.folder.packs())), WIDTH)
         lines = b"".join(self.folder.manifest())
         name, told = await self.send(lambda: iter([lines]), "the folder", always=True)
         found = {"files": self.folder.count, "bytes": self.folder.bytes, "sent": self.sent, "label": label_of(name)}

@@ -4,7 +4,7 @@ POST begins an upload, HEAD returns how much of it has arrived, PATCH continues 
 are stored piece by piece: certified pieces are never sent again, and at most a few are on the gateway's disk."""
 import asyncio
 import contextlib
-import pathlib
+import functools
 import re
 from typing import AsyncIterator, Optional
 
@@ -34,14 +34,10 @@ class Uploads:
     def __init__(self, publisher: Publisher):
         self.publisher, self.active = publisher, dict[str, web.Request]()
         self.turns = Turns(publisher.options.connections, 1)  # one request at a time may work on an upload
-        self.known: Optional[Unfinished] = None
 
-    @property
+    @functools.cached_property
     def kept(self) -> Unfinished:
-        if self.known is None:
-            folder = pathlib.Path(self.publisher.used).with_suffix(".uploads")
-            self.known = Unfinished(folder, self.publisher.options.reserve)
-        return self.known
+        return Unfinished(self.publisher.used.with_suffix(".uploads"), self.publisher.options.reserve)
 
     @property
     def most(self) -> int:
@@ -171,7 +167,8 @@ class Uploads:
 
     async def take(self, upload: Upload, stream: AsyncIterator[bytes]) -> None:
         """Keeps what arrives, and has each piece stored in the network once it is whole: a piece arrives while up to
-        `AHEAD` are stored. Pieces left from earlier requests are stored first, so only a few are ever on the disk."""
+        `AHEAD` are stored, side by side, and recorded in their order. Pieces left from earlier requests are stored
+        first, so only a few are ever on the disk."""
         tasks = list["asyncio.Task[None]"]()
 
         def store(number: int) -> None:
@@ -195,10 +192,11 @@ class Uploads:
             tasks.clear()  # as in `Writer.end`
 
     async def store(self, upload: Upload, number: int, before: "list[asyncio.Task[None]]") -> None:
-        """Stores a piece in the network, and records it once the tasks `before`, those of earlier pieces, are done."""
+        """Stores a piece in the network, and records it after the piece before it, whose task is in `before`. This is
+        a list, and is emptied, as an error that led to its task by this frame would be a cycle."""
         name, was_there = await self.publisher.writer.store_blob(upload.piece(number), upload.about["until"])
         while before:
-            await before.pop()  # an error that led to its task by this frame would be a cycle
+            await before.pop()
         upload.record(name, was_there)
 
     async def finish(self, upload: Upload) -> Told:
