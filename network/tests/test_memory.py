@@ -89,11 +89,12 @@ class Shares(unittest.IsolatedAsyncioTestCase):
     async def test_reads_go_on_while_what_is_stored_hangs(self) -> None:
         await self.begin("stored 1", 4)
         await self.begin("stored 2", 4)
-        with mock.patch.object(pieces, "PATIENCE", 0.05):
-            await self.begin("stored 3", 5)
-            await self.begin("read 1", 1, 1)
-            self.assertEqual(self.steps, ["stored 1", "stored 2"])  # for a moment nobody passes another one
-            await asyncio.sleep(0.2)
+        await self.begin("stored 3", 5)
+        await self.begin("read 1", 1, 1)
+        self.assertEqual(self.steps, ["stored 1", "stored 2"])  # for a moment nobody passes another one
+        async with asyncio.timeout(60):
+            while len(self.steps) < 4:
+                await asyncio.sleep(0.01)
         await self.begin("read 2", 1, 1)
         await self.begin("stored 4", 1)
         self.assertEqual(self.steps[2:], ["read 1", "read 1 more"])
