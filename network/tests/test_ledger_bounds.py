@@ -1,6 +1,7 @@
 """What one name can leave in the ledger, and at everyone who follows it, is bounded, whatever it posts or withholds."""
 import asyncio
 import random
+import tracemalloc
 import types
 import unittest
 import zlib
@@ -33,7 +34,7 @@ def entered(ledger: Ledger, *texts: str) -> list[object]:
     return [ledger.apply(Entry(ledger.revision + 1, text)) for text in texts]
 
 
-def uncounted(votes: Mapping[int, frozenset[int]], first: object) -> dict[int, frozenset[int]]:
+def uncounted(votes: Mapping[int, int], first: object) -> dict[int, int]:
     """Returns all votes, as earlier versions kept them."""
     return dict(votes)
 
@@ -113,6 +114,17 @@ class Votes(unittest.TestCase):
         self.assertEqual(row, ('[{"0":15,"57":8,"58":8},{"57":8,"58":8}]', 0, None))
         self.assertEqual(ledger.certificate((1).to_bytes(32, "big")), (0, 4))
 
+    def test_those_of_a_thousand_shards_take_little_memory(self) -> None:
+        ledger, nodes, count = Ledger(), [f"node-{shard % 10}" for shard in range(1_000)], 1_000
+        entered(ledger, entry_key(OPERATOR, "begin", 0, 333, ",".join(nodes)))
+        tracemalloc.start()
+        self.addCleanup(tracemalloc.stop)
+        for number in range(count):
+            acks = [entry_key(it, ACK, 0, f"{number:064x}") for it in nodes[:8]]
+            said = entered(ledger, registration("x", number, 9), *acks)
+        self.assertEqual(said[-1], "certified 800")
+        self.assertLess(tracemalloc.get_traced_memory()[0] / count * blobs.CACHED, 16_000_000)  # all in memory
+
     def history(self, drawn: random.Random) -> list[str]:
         """Returns random entries of some thirty epochs, with epoch changes that may take long."""
         texts = [FOUNDED, *(f"x/register/{it.hex()}/{drawn.randrange(3, 50)}" for it in NAMES)]
@@ -133,7 +145,7 @@ class Votes(unittest.TestCase):
             found += [ledger.voted(kind, it, node) for kind in (ACK, ATTEST) for node in NODES]
             found += [shard.entries_of(ledger, epoch, it) for epoch in epochs]
             if blob := ledger.blobs.get(it):
-                found += [blob.votes[kind].get(epoch, set()) for kind in (ACK, ATTEST) for epoch in epochs]
+                found += [blob.votes[kind].get(epoch, 0) for kind in (ACK, ATTEST) for epoch in epochs]
         return found
 
     def test_without_votes_that_count_no_more_all_is_as_with_them(self) -> None:

@@ -175,7 +175,7 @@ class Trace:
         ledger = self.ledger
         for identifier, blob in sorted(ledger.blobs.items()):
             digits, found = identifier.hex(), ledger.certificate(identifier)
-            acks = len(blob.votes[ACK].get(ledger.writing_epoch, ()))
+            acks = blob.votes[ACK].get(ledger.writing_epoch, 0).bit_count()
             word = f"epoch {found[0]} count {found[1]}" if found else f"pending {acks}"
             yield Step({"do": "certificate", "id": digits}, f"certificate {digits} {word}", "the ledger at the end")
             epoch = ledger.home_epoch(identifier)

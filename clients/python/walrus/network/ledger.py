@@ -9,7 +9,7 @@ import dataclasses
 import functools
 from typing import Collection, Optional
 
-from .blobs import Blob, Blobs, Over, Owed
+from .blobs import Blob, Blobs, Over, Owed, shards_in
 from .entries import ACK, ADDRESS, ATTEST, LAST_EPOCH, LAST_UNTIL, OPERATOR, PAST, REGISTER, Entry, entry_key
 
 __all__ = ["ACK", "ADDRESS", "ATTEST", "LAST_UNTIL", "OPERATOR", "PAST", "REGISTER", "Entry", "Ledger", "entry_key"]
@@ -34,9 +34,9 @@ def refusal(word: str) -> str:
 
 
 @functools.lru_cache(4_096)
-def owned(owners: tuple[str, ...], node: str) -> frozenset[int]:
-    """Returns the shards of a node in a committee."""
-    return frozenset(shard for shard, owner in enumerate(owners) if owner == node)
+def owned(owners: tuple[str, ...], node: str) -> int:
+    """Returns the shards of a node in a committee, as the bits of a number."""
+    return sum(1 << shard for shard, owner in enumerate(owners) if owner == node)
 
 
 class Void(Exception):
@@ -85,7 +85,7 @@ class Ledger:
 
     def shards_of(self, node: str, epoch: Optional[int] = None) -> list[int]:
         """Returns the shards of a node in the committee of an epoch, or in the writing committee if none is named."""
-        return sorted(owned(self.writing if epoch is None else self.owners(epoch), node))
+        return shards_in(owned(self.writing if epoch is None else self.owners(epoch), node))
 
     def certificate(self, identifier: bytes) -> Optional[tuple[int, int]]:
         blob = self.blobs.get(identifier)
@@ -104,7 +104,7 @@ class Ledger:
     def home_epoch(self, identifier: bytes) -> int:
         """Returns the epoch of the committee that answers for a blob."""
         blob = self.blobs.get(identifier)
-        moved = self.moving and blob and len(blob.votes[ACK].get(self.writing_epoch, ())) >= self.quorum
+        moved = self.moving and blob and blob.votes[ACK].get(self.writing_epoch, 0).bit_count() >= self.quorum
         return self.epoch + bool(moved)
 
     def must_hold(self) -> Collection[bytes] | Owed:
@@ -115,7 +115,7 @@ class Ledger:
     def voted(self, kind: str, identifier: bytes, node: str) -> bool:
         """Whether all shards of a node have acknowledged or attested (`kind`) a blob in the writing epoch."""
         blob, shards = self.blobs.get(identifier), owned(self.writing, node)
-        return bool(blob and shards and shards <= blob.votes[kind].get(self.writing_epoch, frozenset()))
+        return bool(blob and shards and not shards & ~blob.votes[kind].get(self.writing_epoch, 0))
 
     def share(self, poster: str) -> int:
         """Returns how many registrations and addresses of a poster count in an epoch, with its live older blobs."""
@@ -240,10 +240,10 @@ class Ledger:
             return "unregistered"
         if blob.until <= epoch:
             return "expires"
-        if own <= blob.votes[kind].get(epoch, frozenset()):
+        if not own & ~blob.votes[kind].get(epoch, 0):
             return "already"
         self.blobs[identifier] = blob = blob.voted(kind, epoch, own, self.quorum)
-        count = len(blob.votes[kind][epoch])
+        count = blob.votes[kind][epoch].bit_count()
         return f"{('certified' if kind == ACK else 'invalid') if count >= self.quorum else 'counted'} {count}"
 
     def _begin(self, epoch: int, faults: int, owners: tuple[str, ...]) -> str:
@@ -265,7 +265,7 @@ class Ledger:
         return f"epoch {epoch}"
 
     def _ready(self, poster: str) -> str:
-        own = owned(self.next, poster)
+        own = {*shards_in(owned(self.next, poster))}
         if own <= self.ready:
             return "already"
         self.ready |= own

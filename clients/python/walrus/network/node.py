@@ -230,7 +230,7 @@ class Node(View):
                 pass
         if not voted():
             return [answer(DECLINED)]  # the blob has expired, or the epoch has changed meanwhile
-        count = len(ledger.blobs[identifier].votes[kind][ledger.writing_epoch])
+        count = ledger.blobs[identifier].votes[kind][ledger.writing_epoch].bit_count()
         return [answer(COUNTED + (count >= ledger.quorum), count)]
 
     async def close(self) -> None:
