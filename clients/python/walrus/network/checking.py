@@ -7,7 +7,7 @@ import stat
 from typing import Any
 
 from . import certificates, tokens, units
-from .configuration import Role, Wrong, faults_in, located, values_of
+from .configuration import Role, Wrong, faults_in, placed, values_of
 from .machine import is_known_to_tls
 from .settings import GatewaySettings, RecorderSettings, Settings
 
@@ -25,10 +25,9 @@ def check(path: pathlib.Path) -> tuple[str, list[str], list[str]]:
     role = values.get("role", "")
     if role not in ROLES:
         return "", [f"it has no role, which is {' or '.join(ROLES)}"], []
-    faults, kind = faults_in(ROLES[role], values), ROLES[role]
-    if faults:
+    if faults := faults_in(ROLES[role], values):
         return role, faults, []
-    told = {**values, **{it: located(path, values[it]) for it in kind.paths if values.get(it)}}
+    told = placed(ROLES[role], path, values)
     faults += faults_of_places(told) + faults_of_files(told) + faults_of_keys(told) + faults_of_https(told)
     if told.get("tokens"):
         default = pathlib.Path(told["authority"]).with_name("tokens.json")
