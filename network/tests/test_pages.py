@@ -13,7 +13,7 @@ from typing import Any
 
 import harness
 from walrus import port
-from walrus.network import intake, node
+from walrus.network import certificates, intake, node
 from walrus.network.checking import KINDS
 
 PIPE: Any = {"capture_output": True, "text": True}
@@ -36,6 +36,12 @@ class Pages(unittest.TestCase):
         unit, page = ((harness.HERE.parent / it).read_text() for it in ("units/walrus-node@.service", "OPERATING.md"))
         [most] = re.findall(r"^LimitNOFILE=(\d+)$", unit, re.MULTILINE)
         self.assertIn(f"(`LimitNOFILE` of the unit is {int(most):,})", page)
+
+    def test_the_page_says_for_how_long_certificates_are_valid_and_what_warns(self) -> None:
+        page = (harness.HERE.parent / "OPERATING.md").read_text()
+        self.assertIn(f"A certificate is valid for {certificates.DAYS:g} days, ", page)
+        self.assertIn(f"From {certificates.SOON:g} days before, each service says so", page)
+        self.assertRegex(page, f"Useful alarms: .*`walrus_certificate_days < {certificates.SOON:g}`")
 
     @unittest.skipUnless(
         shutil.which("systemd-analyze") and shutil.which("etcd"), "systemd-analyze or etcd is not here"

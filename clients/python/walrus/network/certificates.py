@@ -1,8 +1,11 @@
 """Keys and certificates: authorities, whose certificates are self-signed, and certificates of names that they sign."""
+import asyncio
+import contextlib
 import datetime
 import ipaddress
 import os
 import pathlib
+import sys
 from typing import Any, Iterable, Optional, Union
 
 from cryptography import x509
@@ -12,6 +15,7 @@ from cryptography.hazmat.primitives.asymmetric import ec
 from cryptography.x509.oid import ExtendedKeyUsageOID, NameOID
 
 AUTHORITY_DAYS, DAYS = 3_650.0, 825.0
+SOON, DAY = 30.0, 86_400.0  # days before a certificate expires in which a warning is given; seconds
 EARLIER = datetime.timedelta(hours=1)  # by which a certificate is valid before it was made, for clocks that are slow
 Key = ec.EllipticCurvePrivateKey
 
@@ -104,7 +108,18 @@ def names_of(certificate: x509.Certificate) -> list[str]:
 
 
 def days_left(certificate: x509.Certificate) -> float:
-    return (certificate.not_valid_after - datetime.datetime.utcnow()).total_seconds() / 86_400
+    return (certificate.not_valid_after - datetime.datetime.utcnow()).total_seconds() / DAY
+
+
+async def watch(name: str, loaded: x509.Certificate) -> None:
+    """Prints once a day that the certificate that a service has loaded expires soon."""
+    while True:
+        if days_left(loaded) < SOON:
+            text = f"{name}: the certificate of {common_name(loaded)} that is loaded expires on "
+            text += f"{loaded.not_valid_after:%Y-%m-%d}: renew it (walrus-net renew), and restart this service"
+            with contextlib.suppress(OSError):
+                print(text, file=sys.stderr, flush=True)
+        await asyncio.sleep(DAY)
 
 
 def early(certificate: x509.Certificate) -> str:

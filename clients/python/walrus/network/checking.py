@@ -7,13 +7,13 @@ import stat
 from typing import Any
 
 from . import certificates, tokens, units
+from .certificates import SOON
 from .configuration import Role, Wrong, faults_in, placed, values_of
 from .machine import is_known_to_tls
 from .settings import GatewaySettings, RecorderSettings, Settings
 
 KINDS: tuple[type[Role], ...] = (Settings, RecorderSettings, GatewaySettings)
 ROLES = {it.role: it for it in KINDS}
-SOON = 30.0  # days before a certificate expires in which a warning is given
 
 
 def check(path: pathlib.Path) -> tuple[str, list[str], list[str]]:

@@ -4,6 +4,7 @@ import base64
 import collections
 import contextlib
 import json
+import pathlib
 import sqlite3
 import ssl
 import sys
@@ -11,6 +12,7 @@ from typing import Any, Awaitable, Callable, Optional, Union
 
 from aiohttp import web
 
+from . import certificates
 from .connections import Named, Server
 from .checkpoint import Mark, line_of, parted
 from .entries import number
@@ -208,7 +210,9 @@ async def serve(settings: RecorderSettings) -> int:
         return 1
     recorder = Recorder(etcd_of(settings), state)
     service, keeper = Service(recorder, settings), Keeper(recorder, settings.patience)
-    tasks = [asyncio.create_task(it) for it in (recorder.run(), keeper.run(), ending().wait())]
+    loaded = [certificates.read(pathlib.Path(it)) for it in (settings.certificate, settings.etcd_certificate)]
+    watching = [certificates.watch(settings.name, it) for it in loaded]
+    tasks = [asyncio.create_task(it) for it in (recorder.run(), keeper.run(), ending().wait(), *watching)]
     try:
         ready(f"{settings.name} {settings.host}:{await service.listen()}")
         done, _ = await asyncio.wait(tasks, return_when=asyncio.FIRST_COMPLETED)
