@@ -2,7 +2,6 @@
 import os
 import pathlib
 import re
-import ssl
 import stat
 from typing import Any
 
@@ -95,17 +94,7 @@ def faults_of_https(told: dict[str, Any]) -> list[str]:
     if len(names) < 2:
         return ["tls_certificate and tls_key go together"] if names else []
     own, key = map(pathlib.Path, names)
-    try:
-        found, _ = certificates.read(own), key.read_bytes()
-        ssl.SSLContext(ssl.PROTOCOL_TLS_SERVER).load_cert_chain(own, key, password="")
-    except ssl.SSLError as fault:
-        return [f"{key} is not the key of {own}, or has a password: {fault}"]
-    except (OSError, ValueError) as fault:
-        return [str(fault)]
-    if text := certificates.early(found):
-        return [f"{own} {text}"]
-    left = certificates.days_left(found)
-    return [f"{own} has expired on {found.not_valid_after:%Y-%m-%d}"] if left < 0 else []
+    return certificates.faults_of(own, key)
 
 
 def is_open(path: pathlib.Path) -> bool:
