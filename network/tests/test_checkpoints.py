@@ -39,10 +39,10 @@ class KeptCase(LedgerCase):
         for text in texts:
             await self.users[text.partition("/")[0]].post(text)
 
-    async def keys(self, first: str, last: str) -> list[str]:
+    async def keys(self, first: bytes, last: bytes) -> list[bytes]:
         span = {"key": coded(first), "range_end": coded(last), "keys_only": True}
         found = (await self.recorders[0].etcd.call("kv/range", span)).get("kvs", [])
-        return [base64.b64decode(it["key"]).decode() for it in found]
+        return [base64.b64decode(it["key"]) for it in found]
 
     async def dropped(self, epoch: int, seconds: float = 20) -> bool:
         """Waits until the entries before the checkpoint of an epoch are dropped; returns whether they were."""
@@ -51,7 +51,7 @@ class KeptCase(LedgerCase):
                 while True:
                     mark = await self.recorders[0].etcd.mark()
                     if mark and (mark.epoch, mark.dropped) == (epoch, True):
-                        pieces = {int(it.split("/")[3]) for it in await self.keys(PIECES, PIECES + "~")}
+                        pieces = {int(it.split(b"/")[3]) for it in await self.keys(PIECES, PIECES + b"~")}
                         if int((await self.keys(FIRST, LAST) or [LAST])[0][8:]) > mark.place and {mark.place} == pieces:
                             return True
                     await asyncio.sleep(0.05)
