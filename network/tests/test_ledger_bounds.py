@@ -105,7 +105,7 @@ class Waits(unittest.IsolatedAsyncioTestCase):
         self.assertEqual(self.memory.marked[-1].epoch, 2)
 
     async def crowded(self, first: int, used: int) -> bool:
-        """Has the keeper look while etcd uses so much; returns whether it drops more than before the first checkpoint."""
+        """Has the keeper look while etcd uses so much; returns whether it then drops what followed."""
         self.memory.used = used
         for _ in range(3):
             await self.keeper.look()

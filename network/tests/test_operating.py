@@ -2,6 +2,7 @@
 import argparse
 import asyncio
 import contextlib
+import datetime
 import io
 import os
 import pathlib
@@ -235,6 +236,42 @@ class Handover(LedgerCase):
         self.assertIn("Writer is expelled, from place", await expel("Writer", yes=True))
         async with self.following(self.user("publisher")) as view:
             self.assertEqual(view.ledger.expelled, {"writer", "Writer"})
+
+    async def test_a_plan_by_which_an_epoch_would_be_due_already_is_asked_about(self) -> None:
+        """A timer would begin one epoch at each run, and what expires with them is gone."""
+        year = datetime.timedelta(days=365)
+        now = datetime.datetime.now()
+        before, behind = (it.isoformat(timespec="minutes") for it in (now - year, now + year))
+        for length, since, due in (("14d", before, 26), ("1m", "", 0), ("14d", behind, -27), ("59m", "", 0)):
+            said = await self.plan(length, since)
+            self.assertRegex(
+                said, rf"^epoch 0 counts from 20.*, and each has {length} \(.* minutes\): so epoch {due} is due"
+            )
+            self.assertRegex(
+                said, "no plan was posted, as there is no terminal to ask at: --yes posts it without asking$"
+            )
+        async with self.following(self.user("publisher")) as view:
+            self.assertEqual(view.ledger.calendar, (0, 0, 0))
+        hour = (now - datetime.timedelta(hours=1)).isoformat(timespec="minutes")
+        for length, since, options in (
+            ("14d", hour, {}),
+            ("60m", "", {}),
+            ("14d", before, {"yes": True}),
+            ("off", "", {}),
+        ):
+            said = await self.plan(length, since, **options)
+            self.assertRegex(
+                said, "there is no plan, from place" if length == "off" else rf"each has {length} .*, from place"
+            )
+
+    async def plan(self, length: str, since: str, yes: bool = False) -> str:
+        words = argparse.Namespace(folder=self.folder, json=False, yes=yes, length=length, since=since)
+        with contextlib.redirect_stdout(io.StringIO()) as said:
+            try:
+                self.assertEqual(await operating.plan(words), 0)
+            except Failure as fault:
+                return f"{said.getvalue()}{fault.args[0]}"
+        return said.getvalue()
 
     async def test_the_plan_of_a_network_begins_its_first_epoch_once_its_nodes_answer(self) -> None:
         said = await self.begin({"node-0": ["alpha", 1, 4]})

@@ -19,6 +19,7 @@ from .ledger import Ledger
 from .peers import SCRUB, Seat
 from .transfers import Failure
 
+SHORT = 60  # minutes of an epoch below which a plan may be a slip, such as 1m for a month
 NAMED = 20  # blobs ending with an epoch that are printed at most, before the number of the others
 SNAPSHOT = "; take a snapshot of the ledger before you remove nodes without shards (network/OPERATING.md)"
 
@@ -207,15 +208,21 @@ def known_of(ledger: Ledger, name: str) -> str:
 
 
 async def plan(words: argparse.Namespace) -> int:
-    """Posts the planned length of epochs, from the present one on, or that there is no plan."""
+    """Posts the planned length of epochs, from the present one on, or that there is no plan. Asks first if by the plan
+    the present epoch is over or has not begun, or if epochs are very short: a timer might begin one in each run."""
     minutes = 0 if words.length == "off" else seconds_of(words.length) // 60
     since = datetime.datetime.fromisoformat(words.since) if words.since else datetime.datetime.now()
+    begins, late = since.astimezone(datetime.timezone.utc).strftime("%Y-%m-%dT%H:%MZ"), time.time() - since.timestamp()
     async with Network(words.folder, OPERATOR) as network:
         epoch = network.ledger.epoch
+        told = f"epoch {epoch} counts from {begins}, and each has {words.length} ({minutes:,} minutes)"
+        if minutes and (minutes < SHORT or not 0 <= late < 60 * minutes):
+            if not words.json:
+                print(f"{told}: so epoch {epoch + late // 60 // minutes:.0f} is due now", flush=True)
+            must_agree("post this plan?", words, "no plan was posted", "posts it")
         fields = [epoch, int(since.timestamp()) // 60, minutes] if minutes else [0, 0, 0]
         place = await network.recorders.post(entry_key(OPERATOR, "calendar", *fields))
-    begins = since.astimezone(datetime.timezone.utc).strftime("%Y-%m-%dT%H:%MZ")
-    text = f"epoch {epoch} counts from {begins}, and each has {words.length}" if minutes else "there is no plan"
+    text = told if minutes else "there is no plan"
     print(json.dumps({"calendar": fields, "place": place}) if words.json else f"{text}, from place {place} on")
     return 0
 
