@@ -243,7 +243,7 @@ class Steps(unittest.IsolatedAsyncioTestCase):
                             task.cancel()
                         start(2)
             for _ in range(400):
-                if memory.marked and memory.marked[-1].epoch == 4 and not [it for it in memory.kept if it < 20]:
+                if memory.marked and memory.marked[-1].epoch == 4 and not [it for it in memory.kept if it <= 20]:
                     break
                 await asyncio.sleep(0.005)
             self.assertEqual(memory.marked[-1].epoch, 4)
