@@ -13,12 +13,13 @@ from typing import Any, Sequence
 from unittest import mock
 
 import harness
-from ledger_case import FOUR, LedgerCase, registration
+from ledger_case import FOUNDED, FOUR, LedgerCase, registration
 from walrus import client, frames
 from walrus.network import commands, operating
-from walrus.network.entries import ADDRESS, OPERATOR, entry_key
+from walrus.network.entries import ADDRESS, OPERATOR, Entry, entry_key
 from walrus.network.client import Network
 from walrus.network.follower import Recorders, Refused, Unreachable
+from walrus.network.ledger import Ledger
 from walrus.network.local import Local
 from walrus.network.transfers import Failure
 
@@ -236,6 +237,29 @@ class Handover(LedgerCase):
         self.assertIn("Writer is expelled, from place", await expel("Writer", yes=True))
         async with self.following(self.user("publisher")) as view:
             self.assertEqual(view.ledger.expelled, {"writer", "Writer"})
+
+    async def test_who_would_be_one_too_many_with_those_expelled_before_is_shown_as_that(self) -> None:
+        ledger = Ledger()
+
+        def enter(*texts: str) -> None:
+            for text in texts:
+                self.assertTrue(ledger.apply(Entry(ledger.revision + 1, text)))
+
+        enter(FOUNDED, entry_key(OPERATOR, "expel", "node-0"))
+        known = "node-1 has 1 shards, and 1 may be lost, with those expelled before, 2 shards are lost, and"
+        self.assertEqual(operating.known_of(ledger, "node-1"), f"{known} nothing is stored before a handover")
+        self.assertNotIn("lost", operating.known_of(ledger, "writer"))
+        enter(entry_key(OPERATOR, "begin", 1, 1, FOUR))
+        self.assertEqual(operating.known_of(ledger, "node-1"), f"{known} this handover may never end")
+        network = mock.MagicMock(ledger=ledger)
+        network.__aenter__.return_value, network.recorders.post = network, mock.AsyncMock(return_value=9)
+        words = argparse.Namespace(command="expel", folder=self.folder, name="node-1", json=True, yes=True)
+        with mock.patch.object(operating, "Network", lambda *_: network), contextlib.redirect_stdout(io.StringIO()):
+            with self.assertRaisesRegex(Failure, "node-1 is not expelled: .* 2 shards .*; without --yes you are asked"):
+                await operating.post(words)
+            words.name = "writer"
+            self.assertEqual(await operating.post(words), 0)
+        network.recorders.post.assert_awaited_once_with(entry_key(OPERATOR, "expel", "writer"))
 
     async def test_a_plan_by_which_an_epoch_would_be_due_already_is_asked_about(self) -> None:
         """A timer would begin one epoch at each run, and what expires with them is gone."""

@@ -191,16 +191,29 @@ async def post(words: argparse.Namespace) -> int:
         if words.command == "expel":
             if not words.json:
                 print(known_of(network.ledger, words.name), flush=True)
+            if words.yes and network.ledger.moving and (lost := lost_with(network.ledger, words.name)):
+                raise Failure(f"{words.name} is not expelled: {lost}; without --yes you are asked", 1)
             must_agree(f"expel {words.name} for ever?", words, f"{words.name} is not expelled", "expels it")
         place = await network.recorders.post(entry_key(OPERATOR, words.command, *fields))
     print(json.dumps({"name": words.name, "place": place}) if words.json else f"{text}, from place {place} on")
     return 0
 
 
+def lost_with(ledger: Ledger, name: str) -> str:
+    """Returns what is lost if a node is expelled after others; an empty text if at most f shards are."""
+    gone = {*ledger.expelled, name}
+    lost = max(sum(it in gone for it in owners) for owners in (ledger.now, ledger.next))
+    if lost <= ledger.faults or name not in ledger.nodes:
+        return ""
+    text = "this handover may never end" if ledger.moving else "nothing is stored before a handover"
+    return f"with those expelled before, {lost} shards are lost, and {text}"
+
+
 def known_of(ledger: Ledger, name: str) -> str:
     """Returns what the ledger knows of a name, so that a misspelt one is noticed before it is expelled."""
     shards, live = max(ledger.now.count(name), ledger.next.count(name)), ledger.blobs.posters()[name]
     known = [f"{shards} shards, and {ledger.faults} may be lost"] if shards else []
+    known += filter(None, [lost_with(ledger, name)])
     known += [f"{live} live blobs"] if live else []
     known += [f"a share of {ledger.shares[name]}"] if name in ledger.shares else []
     known += [f"the address {ledger.addresses[name][0]}"] if name in ledger.addresses else []
