@@ -95,6 +95,9 @@ class Pages(unittest.TestCase):
     def test_the_line_for_a_timer_names_the_epoch_that_is_due_and_the_next_one_at_most(self) -> None:
         page = (harness.HERE.parent / "OPERATING.md").read_text()
         [line] = re.findall(r"--epoch \$\(walrus-net status --json \| jq '(.*?)'\)", page)
+        self.assertRegex(
+            page, r"NTPSynchronized .*\)\" = yes \] && walrus-net handover FOLDER --yes --force --epoch \$"
+        )
         cases = [(0, 0.1, 0), (0, 13.9, 0), (0, 14.1, 1), (1, 14.1, 1), (0, 99, 1), (5, 99, 6), (8, 99, 7), (0, -1, -1)]
         for epoch, days, due in cases:  # days since the plan began, which may be in the future
             plan = {"epoch": 0, "since": int(time.time() - 86_400 * days), "seconds": 14 * 86_400, "next": None}

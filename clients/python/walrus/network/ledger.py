@@ -145,7 +145,10 @@ class Ledger:
 
     def refused(self, entry: Entry) -> str:
         """Applies an entry and returns why it changes nothing, or an empty text if it counts. Recorders do not append
-        entries that change nothing, so these take nothing of their poster's share."""
+        entries that change nothing, so these take nothing of their poster's share; nor acknowledgements that no correct
+        node posts, although they would count."""
+        if entry.words[1:2] == [ACK] and self.certified_before(entry.values[1], entry.values[0]):
+            return "the blob was certified in an earlier epoch"
         try:
             why = refusal(self.enter(entry))
         except Void as void:
