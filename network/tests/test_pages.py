@@ -106,6 +106,11 @@ class Pages(unittest.TestCase):
         for told in (json.dumps({"epoch": 3, "calendar": None}), ""):
             self.assertEqual(subprocess.run(["jq", line], input=told, **PIPE).stdout, "")  # so nothing begins
 
+    def test_systemd_waits_for_a_start_however_long_pages_are_checked(self) -> None:
+        """Otherwise it ends a start in the middle of many pages, and the next one too."""
+        for unit in (harness.HERE.parent / "units").glob("*.service"):
+            self.assertIn("\nTimeoutStartSec=infinity\n", unit.read_text(), unit.name)
+
     def test_a_disk_for_which_linux_waits_costs_no_node(self) -> None:
         """It gives a command up after 30 s and five retries; the last beat may be a third of the time ago."""
         unit = (harness.HERE.parent / "units" / "walrus-node@.service").read_text()
