@@ -301,6 +301,17 @@ class Handover(LedgerCase):
         said = await self.begin({"node-0": ["alpha", 1, 4]})
         self.assertIn("epoch 0 has begun before", said)
 
+    async def test_a_spare_node_that_was_added_before_the_first_epoch_gets_no_shard_of_it(self) -> None:
+        network = mock.MagicMock(ledger=Ledger(), until=mock.AsyncMock(return_value=True), begin=mock.AsyncMock())
+        network.__aenter__.return_value = network
+        nodes = {name: ["alpha", 1, 1] for name in [*NODES, "node-4"]}
+        plan = self.local.told() | {"nodes": nodes, "faults": 1}
+        pathlib.Path(self.folder, "network.json").write_text(operating.json.dumps(plan))
+        with mock.patch.multiple(operating, Network=lambda *_: network, must_answer=mock.AsyncMock()):
+            with contextlib.redirect_stdout(io.StringIO()):
+                self.assertEqual(await operating.begin(argparse.Namespace(folder=self.folder, json=False)), 0)
+        network.begin.assert_awaited_once_with(1, NODES, 0)
+
     async def begin(self, nodes: dict[str, list[Any]]) -> str:
         path = pathlib.Path(self.folder, "network.json")
         plan = self.local.told() | {"nodes": nodes, "faults": 1}

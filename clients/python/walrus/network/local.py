@@ -119,8 +119,8 @@ class Local:
         await all_of(map(self.start_recorder, self.recorders))
 
     async def add_node(self, name: str) -> None:
-        """Makes a node's certificate and settings, unless it has settings. Raises `Unfounded` if none can have its name,
-        such as one whose files are the ledger's or an authority's."""
+        """Makes a node's certificate and settings, unless it has settings. Raises `Unfounded` if no node can have this
+        name, such as one whose files are the ledger's or an authority's."""
         if not (self.folder / f"{name}.toml").exists():
             self.machine().node(Place.read(f"{name}={HOST}:{free_port()}"), **self.options)
 

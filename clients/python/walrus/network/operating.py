@@ -162,11 +162,11 @@ def tell_of(network: Network, owners: list[str], ended: list[str], reordered: bo
 
 
 async def begin(words: argparse.Namespace) -> int:
-    """Begins the first epoch of a network, with the nodes in its plan."""
+    """Begins the first epoch of a network, with the nodes in its plan; those that were added since are spare ones."""
     plan = json.loads((words.folder / "network.json").read_text())
     if "nodes" not in plan:
         raise Failure(f"{words.folder} does not say with which nodes the network was founded", 2)
-    owners = [name for name, (_, _, shards) in plan["nodes"].items() for _ in range(shards)]
+    owners = [name for name, (_, _, shards) in plan["nodes"].items() for _ in range(shards)][: 3 * plan["faults"] + 1]
     async with Network(words.folder, OPERATOR) as network:
         if network.ledger.now:
             raise Failure(f"epoch {network.ledger.epoch} has begun before: walrus-net handover begins the next one", 1)
