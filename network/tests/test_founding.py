@@ -193,6 +193,21 @@ class Changed(FoundingCase):
         left = {path.name for path in (self.folder / "hosts" / "delta").glob("delta*")}
         self.assertEqual(left, {f"delta.b.{end}" for end in ("toml", "crt", "key")})
 
+    async def test_settings_that_were_changed_in_the_founder_s_folder_stay(self) -> None:
+        """A machine that is replaced gets them; with a smaller quota than before it would stop the ledger."""
+        await self.found()
+        changed = {
+            path: path.read_text() + "\n" for path in self.folder.glob("hosts/*/*") if path.suffix in (".env", ".toml")
+        }
+        for path, text in changed.items():
+            path.write_text(text)
+        await self.says("add", self.folder, "delta=delta:31500", "epsilon=alpha:31501")
+        await self.says("renew", self.folder, "alpha", "etcd")
+        self.assertEqual({path: path.read_text() for path in changed}, changed)
+        page = (TOP / "network" / "OPERATING.md").read_text()
+        self.assertIn("Change the quota in `net/hosts/*/etcd.env` on desk too", page)
+        self.assertGreater(len(changed), 7)
+
     async def test_each_machine_has_the_units_of_the_version_that_changed_its_files_last(self) -> None:
         await self.found()
         unit = "units/walrus-etcd.service"

@@ -246,7 +246,7 @@ class Handover(LedgerCase):
                 self.assertTrue(ledger.apply(Entry(ledger.revision + 1, text)))
 
         enter(FOUNDED, entry_key(OPERATOR, "expel", "node-0"))
-        known = "node-1 has 1 shards, and 1 may be lost, with those expelled before, 2 shards are lost, and"
+        known = "node-1 has 1 shards, and 1 may be lost, in all 2 shards of expelled nodes, so"
         self.assertEqual(operating.known_of(ledger, "node-1"), f"{known} nothing is stored before a handover")
         self.assertNotIn("lost", operating.known_of(ledger, "writer"))
         enter(entry_key(OPERATOR, "begin", 1, 1, FOUR))

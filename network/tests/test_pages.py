@@ -37,6 +37,11 @@ class Pages(unittest.TestCase):
         [most] = re.findall(r"^LimitNOFILE=(\d+)$", unit, re.MULTILINE)
         self.assertIn(f"(`LimitNOFILE` of the unit is {int(most):,})", page)
 
+    def test_the_page_does_not_promise_what_is_lost_with_more_than_f_shards(self) -> None:
+        page = (harness.HERE.parent / "OPERATING.md").read_text()
+        self.assertIn("only what both others hold is still read: a blob that one of them lacked then", page)
+        self.assertIn("If fewer than f+1 shards hold one of these", page)
+
     def test_the_page_says_for_how_long_certificates_are_valid_and_what_warns(self) -> None:
         page = (harness.HERE.parent / "OPERATING.md").read_text()
         self.assertIn(f"A certificate is valid for {certificates.DAYS:g} days, ", page)

@@ -206,7 +206,7 @@ def lost_with(ledger: Ledger, name: str) -> str:
     if lost <= ledger.faults or name not in ledger.nodes:
         return ""
     text = "this handover may never end" if ledger.moving else "nothing is stored before a handover"
-    return f"with those expelled before, {lost} shards are lost, and {text}"
+    return f"in all {lost} shards of expelled nodes, so {text}"
 
 
 def known_of(ledger: Ledger, name: str) -> str:
