@@ -32,6 +32,7 @@ TABLES = (
 )
 DERIVED = "INDEX of_epoch", "INDEX of_number", "TRIGGER made", "TRIGGER changed"  # cheaper made anew for many rows
 ALL = "SELECT * FROM blobs WHERE until > ? ORDER BY identifier"
+# A row that was changed comes with the number 0, and keeps the one that it has.
 PUT = """INSERT INTO blobs VALUES (?, ?, ?, ?, ?, ?, ?) ON CONFLICT DO UPDATE SET
     number = max(number, excluded.number), until = excluded.until, poster = excluded.poster, votes = excluded.votes,
     certified = excluded.certified, invalid = excluded.invalid"""
@@ -114,7 +115,7 @@ class Blobs(Mapping[bytes, Blob]):
         self.base = base or sqlite3.connect(":memory:", isolation_level=None)
         self.make()
         self.kept = dict[bytes, Optional[Blob]]()  # in memory; None if the ledger has no such blob
-        self.numbers = dict[bytes, int]()  # of new blobs that the database lacks, and 0 of blobs that were changed
+        self.numbers = dict[bytes, int]()  # of new blobs that the database lacks, and 0 of others that were changed
 
     def make(self) -> None:
         for words in TABLES:

@@ -162,7 +162,7 @@ class Recorders:
         async with session.get(f"{url}entries", params={"after": str(place)}, timeout=limit) as said:
             read = said.content.readline
             told = json.loads(await read())
-            if "tail" in told:  # the ledger is being restored: it gets what is kept of it here, or a part
+            if "tail" in told:  # restoring.py asks so for what is kept here, and gets it, or a part
                 entries = self.tail(place := told["tail"], 4 * MOST)
                 after = entries[0].revision - 1 if entries else place
                 body = {"after": after, "digest": self.digest(after)}

@@ -2,7 +2,8 @@
 
 Places of entries are consecutive and begin with 1. An entry that names another epoch than the one at its place is void:
 an epoch change came first, and its poster may post it anew. Entries beyond a poster's share are void too, and so are
-entries posted under a name that the operator has expelled."""
+entries posted under a name that the operator has expelled. An entry *counts* if it is not void, and its outcome is not
+in `REFUSED`."""
 import collections
 import copy
 import dataclasses

@@ -113,15 +113,15 @@ class Recorder:
         """Appends the waiting entries that count as one batch and answers them, unless another recorder was first."""
         answers, batch = self.judge()
         try:
-            stood = await self.step(batch)
+            ended_here = await self.step(batch)
         except Failed:
             if batch:
                 await self.step()  # etcd may be full, and still answers reads
             raise
-        for taken, answer in answers.items() if stood else ():  # otherwise they were judged by an outdated ledger
+        for taken, answer in answers.items() if ended_here else ():  # otherwise they were judged by an outdated ledger
             if not taken.done():
                 taken.set_result(answer)
-        if not stood or not all(it.done() for it in self.waiting):
+        if not ended_here or not all(it.done() for it in self.waiting):
             self.bell.set()
 
     async def step(self, batch: Optional[Batch] = None) -> bool:
@@ -131,13 +131,13 @@ class Recorder:
         begun, known = time.monotonic(), self.head(self.chain)
         wanted, self.own = (self.head(batch.after), batch.last) if batch else (known, 0)
         head, others = await self.etcd.append(known, wanted, batch) if batch else (await self.etcd.head(), [])
-        if (stood := head == wanted) and batch:
+        if (ended_here := head == wanted) and batch:
             self.enter(batch, own=True)
-        elif stood and not self.state.whole:
+        elif ended_here and not self.state.whole:
             self.state.save(self.chain)
-        if stood or await self.read(head, others):
+        if ended_here or await self.read(head, others):
             self.seen = begun
-        return stood
+        return ended_here
 
     async def read(self, head: bytes, others: list[Batch]) -> bool:
         """Reads batches up to a head, or some; returns whether that was all. Creates a ledger if there is none."""

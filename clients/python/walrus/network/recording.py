@@ -8,7 +8,7 @@ import pathlib
 import sqlite3
 import ssl
 import sys
-from typing import Any, Awaitable, Callable, Optional, Union
+from typing import Any, AsyncIterator, Awaitable, Callable, Optional, Union
 
 from aiohttp import web
 
@@ -88,18 +88,14 @@ class Service(Server):
     async def post(self, request: web.Request) -> web.Response:
         """Reads entries, and answers once the ledger has them. Bodies of one name are checked one after another, and
         after each the name waits for as long as the check took, so others have at least half of the time."""
-        name, turn, loop = request["name"], self.turns[request["name"]], asyncio.get_running_loop()
+        name = request["name"]
         try:
             async with asyncio.timeout(REQUEST):
                 body = await request.read()
         except (TimeoutError, OSError, ValueError, web.PayloadAccessError):
             body = b""
-        await turn.acquire()
-        begun = loop.time()
-        try:
+        async with held_twice(self.turns[name]):
             taken = self.take(name, body)
-        finally:
-            loop.call_later(loop.time() - begun, turn.release)
         if isinstance(taken, web.Response):
             return taken
         try:
@@ -191,6 +187,18 @@ class Service(Server):
         with contextlib.suppress(Failed):  # the status goes without `etcd` then
             told["etcd"] = dict(zip(("bytes", "used"), await recorder.etcd.sizes(1)))
         return web.json_response(told)
+
+
+@contextlib.asynccontextmanager
+async def held_twice(lock: asyncio.Lock) -> AsyncIterator[None]:
+    """Holds a lock during the block, and after it for as long as the block took."""
+    loop = asyncio.get_running_loop()
+    await lock.acquire()
+    begun = loop.time()
+    try:
+        yield
+    finally:
+        loop.call_later(loop.time() - begun, lock.release)
 
 
 def wrong(status: int, text: str) -> web.Response:

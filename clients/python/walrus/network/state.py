@@ -51,7 +51,8 @@ class State(Database):
     present one among them; its owner then drops the rows of blobs that are over."""
 
     def __init__(self, path: str = "", tail: int = 0, pages: int = PAGES):
-        self.tail, self.pages, self.identity, self.entering = tail, pages, "", False
+        self.tail, self.pages, self.identity = tail, pages, ""
+        self.entering = False  # a checkpoint is being loaded, or entries are being applied: a commit would have a part
         self.chain: Optional[Chain] = None
         self.fresh = list[Entry]()  # entries that were applied since the last commit
         self.again = self.due = 0.0  # when to try a full disk again; when to commit what is saved with `soon`
