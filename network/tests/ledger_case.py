@@ -101,7 +101,7 @@ class LedgerCase(unittest.IsolatedAsyncioTestCase):
         return made
 
     async def newcomer(self, name: str) -> Recorders:
-        await make_certificate(self.folder, f"users/{name}")
+        make_certificate(self.folder, f"users/{name}")
         return self.user(name)
 
     @contextlib.asynccontextmanager

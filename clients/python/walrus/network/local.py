@@ -37,7 +37,7 @@ def free_port() -> int:
             return int(found.getsockname()[1])
 
 
-async def make_certificate(folder: pathlib.Path, path: str, by: str = AUTHORITY) -> None:
+def make_certificate(folder: pathlib.Path, path: str, by: str = AUTHORITY) -> None:
     """Makes a key and a certificate for a name on this machine, signed by an authority."""
     name = pathlib.Path(path).name
     certificates.make(folder / path, folder / by, name, [name, HOST])
@@ -84,7 +84,7 @@ class Local:
         for name in (AUTHORITY, ETCD_AUTHORITY):
             certificates.make_authority(self.folder / name)
         for name in (OPERATOR, "publisher"):
-            await make_certificate(self.folder, f"users/{name}")
+            make_certificate(self.folder, f"users/{name}")
         urls = {name: [f"https://{HOST}:{free_port()}" for _ in range(2)] for name in self.members}
         places = [Place(name, HOST, free_port()) for name in self.recorders]
         told = {"program": self.program, "recorders": [it.address for it in places], "etcd": urls}
