@@ -29,7 +29,7 @@ class Liar(State):
 
     def entries(self, after: int = -1, count: int = -1) -> Any:
         found = super().entries(after, count)
-        return [type(it)(it.revision, registration("liar", it.revision)) for it in found]
+        return [type(it)(it.place, registration("liar", it.place)) for it in found]
 
 
 class Agreed(unittest.IsolatedAsyncioTestCase):

@@ -164,9 +164,9 @@ class Recorders:
             told = json.loads(await read())
             if "tail" in told:  # restoring.py asks so for what is kept here, and gets it, or a part
                 entries = self.tail(place := told["tail"], 4 * MOST)
-                after = entries[0].revision - 1 if entries else place
+                after = entries[0].place - 1 if entries else place
                 body = {"after": after, "digest": self.digest(after)}
-                await self.ask("tail", body | {"entries": fitting((it.key for it in entries), MOST_BYTES)}, at)
+                await self.ask("tail", body | {"entries": fitting((it.text for it in entries), MOST_BYTES)}, at)
                 raise Unreachable(told["error"])
             if said.status != 200:
                 kind = {403: Refused, 409: Parted}.get(said.status, ConnectionError)

@@ -141,7 +141,7 @@ class Ledger:
             word = self.enter(entry)
         except Void:
             return None
-        self.revision = entry.revision
+        self.revision = entry.place
         return word
 
     def refused(self, entry: Entry) -> str:

@@ -218,7 +218,7 @@ class Recorder:
             elif reason := fork.refused(entry):
                 answers[taken] = Refused(reason)
             else:
-                answers[taken] = places[text] = entry.revision
+                answers[taken] = places[text] = entry.place
                 if fork.epoch != self.ledger.epoch:
                     break  # the copy is good up to an epoch change only
         return answers, Batch(self.chain, [*places]) if places else None
