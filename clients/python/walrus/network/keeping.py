@@ -42,9 +42,12 @@ class Keeper:
                 self.said = str(fault)
 
     async def look(self) -> None:
-        """Takes the next step: marks a checkpoint as dropped, drops what is before it, or writes the next one; and
-        defragments etcd when it is idle. While a checkpoint waits for nodes no other one is written: the wait would
-        begin again at each epoch change, and would never end if epochs are shorter than `patience`."""
+        """Takes the next step for the checkpoint in etcd, and defragments etcd when it is idle. A checkpoint:
+
+        - waits for nodes, and is marked as dropped once that is over. Meanwhile no other one is written: the wait would
+          begin again at each epoch change, and would never end if epochs are shorter than `patience`;
+        - is marked, and each recorder drops what is before it;
+        - is the last one until the next one is due, and written."""
         recorder, mark = self.recorder, await self.etcd.mark()
         if mark and not mark.dropped:
             if self.is_over(mark) or await self.is_full():
