@@ -145,7 +145,7 @@ async def write(local: Local, made: State) -> None:
         await etcd.put_piece(place, number, zlib.compress(piece, 1))
     await etcd.put_mark(Mark(place, 0, bytes(32).hex(), digest.hexdigest(), number + 1, time.time(), True), None)
     head = {"ledger": made.identity, "place": place, "digest": bytes(32).hex()}
-    await etcd.append("", json.dumps(head))
+    await etcd.append(b"", json.dumps(head).encode())
     size, _ = await etcd.sizes()
     live = len(made.ledger.blobs)
     print(f"a checkpoint of {live} live blobs: {size} bytes of etcd, {size / live:.0f} a blob")

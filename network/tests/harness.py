@@ -120,7 +120,7 @@ class NetworkCase(unittest.IsolatedAsyncioTestCase):
 
     def heard(self, name: str) -> int:
         entries = self.record(name).entries
-        return entries[-1].revision if entries else 0
+        return entries[-1].place if entries else 0
 
     def logs(self) -> str:
         return "\n".join(f"{path.name}: {path.read_text()[-1500:]}" for path in sorted(self.folder.glob("*.log")))

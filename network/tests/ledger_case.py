@@ -101,7 +101,7 @@ class LedgerCase(unittest.IsolatedAsyncioTestCase):
         return made
 
     async def newcomer(self, name: str) -> Recorders:
-        await make_certificate(self.folder, f"users/{name}")
+        make_certificate(self.folder, f"users/{name}")
         return self.user(name)
 
     @contextlib.asynccontextmanager
@@ -176,10 +176,10 @@ class Memory(Etcd):
     """etcd in memory. By `plan` some calls fail, or end their caller, before or after they take effect."""
 
     def __init__(self) -> None:
-        self.kept, self.top, self.calls, self.ended = dict[int, Batch](), "", 0, 0  # `ended`: callers that were killed
+        self.kept, self.top, self.calls, self.ended = dict[int, Batch](), b"", 0, 0  # `ended`: callers that were killed
         self.marked, self.pieces = list[Mark](), dict[tuple[int, int], bytes]()
         self.plan: dict[int, str] = {}
-        self.hear = list[Callable[[str], None]]()  # watchers of the head
+        self.hear = list[Callable[[bytes], None]]()  # watchers of the head
         self.all = list[str]()  # everything that was ever appended
         self.used = 0  # bytes, of its quota
 
@@ -199,7 +199,7 @@ class Memory(Etcd):
             await asyncio.sleep(0)  # the caller gets no further
         return call
 
-    async def head(self) -> str:
+    async def head(self) -> bytes:
         call = await self.fails("before")
         top = self.top
         await self.fails("behind", call)
@@ -213,7 +213,7 @@ class Memory(Etcd):
             raise Gone("they are dropped")
         return found
 
-    async def append(self, head: str, after: str, batch: Optional[Batch] = None) -> tuple[str, list[Batch]]:
+    async def append(self, head: bytes, after: bytes, batch: Optional[Batch] = None) -> tuple[bytes, list[Batch]]:
         call = await self.fails("before")
         others = [it for place, it in sorted(self.kept.items()) if batch and place > batch.before.place][:2]
         if self.top == head:
@@ -264,7 +264,7 @@ class Memory(Etcd):
     async def sizes(self, seconds: float = 10) -> tuple[int, int]:
         return self.used, self.used
 
-    async def watch(self, hear: Callable[[str], None]) -> None:
+    async def watch(self, hear: Callable[[bytes], None]) -> None:
         self.hear.append(hear)
         await asyncio.Event().wait()
 

@@ -4,6 +4,7 @@ import contextlib
 import datetime
 import io
 import os
+import pathlib
 import shutil
 import socket
 import tempfile
@@ -11,8 +12,10 @@ import unittest
 from unittest import mock
 
 from founding_case import FoundingCase
-from walrus.network import certificates, configuration, notify
+from walrus.network import certificates, configuration, gateway, notify
 from walrus.network.checking import check, faults_of_https
+from walrus.network.client import Access
+from walrus.network.local import Local
 from walrus.network.settings import Settings
 
 
@@ -90,6 +93,56 @@ class Check(FoundingCase):
         self.path.write_text(self.text + "memroy = 7\n")
         with self.assertRaisesRegex(configuration.Wrong, "memroy is no setting of a node"):
             Settings.read(self.path)
+
+
+class Loaded(unittest.IsolatedAsyncioTestCase):
+    async def asyncSetUp(self) -> None:
+        asyncio.get_running_loop().set_debug(False)
+        self.folder = pathlib.Path(self.enterContext(tempfile.TemporaryDirectory()))
+
+    async def test_a_service_says_each_day_that_its_certificate_expires_soon(self) -> None:
+        certificates.make_authority(self.folder / "authority")
+        self.enterContext(mock.patch.object(certificates, "DAY", 0.01))
+        for days, lines in ((31.0, 0), (29.0, 3), (-0.01, 3)):
+            certificates.make(self.folder / "own", self.folder / "authority", "alpha", ["alpha"], days)
+            found = certificates.read(self.folder / "own.crt")
+            left = mock.patch.object(certificates, "days_left", return_value=days)
+            with contextlib.redirect_stderr(io.StringIO()) as said, contextlib.suppress(TimeoutError), left:
+                async with asyncio.timeout(0.2):
+                    await certificates.watch("node alpha", found)
+            told = said.getvalue().splitlines()
+            self.assertEqual(min(len(told), 3), lines, told)
+            for line in told:
+                self.assertRegex(line, f"^node alpha: .* alpha .* {found.not_valid_after:%Y-%m-%d}: renew it .*restart")
+
+    async def test_each_service_looks_at_what_it_has_loaded(self) -> None:
+        """Not at the files, which are newer if it was not started again after they were renewed."""
+        local = Local(self.folder)
+        self.addAsyncCleanup(local.close)
+        await local.found()
+        await local.add_node("node-0")
+        names = ["node-0", "recorder-0", "etcd", "users/publisher"]
+        for path in map(self.folder.joinpath, names):
+            by, known = "etcd-authority" if path.name == "etcd" else "authority", certificates.read(
+                path.with_suffix(".crt")
+            )
+            words = certificates.common_name(known), certificates.names_of(known), 9.0
+            certificates.make(path, self.folder / by, *words)
+        await local.start_ledger()
+        await local.start_node("node-0")
+        access = Access.within(self.folder, "publisher")
+        with contextlib.redirect_stderr(io.StringIO()) as said, contextlib.redirect_stdout(io.StringIO()) as ready:
+            told = asyncio.Event()
+            task = asyncio.create_task(gateway.serve(access, "127.0.0.1", 0, gateway.Options(), told))
+            while "ready" not in ready.getvalue() and not task.done():
+                await asyncio.sleep(0.01)
+            await asyncio.sleep(0.1)
+            told.set()
+            self.assertEqual(await task, 0)
+        for name, by in (("node-0", "node-0"), ("recorder-0", "recorder-0"), ("etcd", "recorder-0")):
+            text = (self.folder / f"{by}.log").read_text()
+            self.assertIn(f"{by}: the certificate of {name} that is loaded expires on", text)
+        self.assertIn("publisher: the certificate of publisher that is loaded expires on", said.getvalue())
 
 
 class Manager(unittest.IsolatedAsyncioTestCase):

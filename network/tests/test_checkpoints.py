@@ -39,10 +39,10 @@ class KeptCase(LedgerCase):
         for text in texts:
             await self.users[text.partition("/")[0]].post(text)
 
-    async def keys(self, first: str, last: str) -> list[str]:
+    async def keys(self, first: bytes, last: bytes) -> list[bytes]:
         span = {"key": coded(first), "range_end": coded(last), "keys_only": True}
         found = (await self.recorders[0].etcd.call("kv/range", span)).get("kvs", [])
-        return [base64.b64decode(it["key"]).decode() for it in found]
+        return [base64.b64decode(it["key"]) for it in found]
 
     async def dropped(self, epoch: int, seconds: float = 20) -> bool:
         """Waits until the entries before the checkpoint of an epoch are dropped; returns whether they were."""
@@ -51,7 +51,7 @@ class KeptCase(LedgerCase):
                 while True:
                     mark = await self.recorders[0].etcd.mark()
                     if mark and (mark.epoch, mark.dropped) == (epoch, True):
-                        pieces = {int(it.split("/")[3]) for it in await self.keys(PIECES, PIECES + "~")}
+                        pieces = {int(it.split(b"/")[3]) for it in await self.keys(PIECES, PIECES + b"~")}
                         if int((await self.keys(FIRST, LAST) or [LAST])[0][8:]) > mark.place and {mark.place} == pieces:
                             return True
                     await asyncio.sleep(0.05)
@@ -128,6 +128,25 @@ class Kept(KeptCase):
             self.assertTrue(await away.until(lambda _: away.caught_up, 10))
             await self.same(early, away)
             task.cancel()
+
+    async def test_who_was_away_while_an_epoch_filled_etcd_hears_the_same_as_newcomers(self) -> None:
+        with mock.patch.multiple(keeping, LEAST=20, FULL=1e-6):
+            async with self.following(self.user("publisher")) as early:
+                before = early.chain
+                await self.say(*(registration("publisher", number, 2 + number % 3) for number in range(40)))
+                async with asyncio.timeout(60):
+                    while (await self.keys(FIRST, LAST) or [LAST])[0] == FIRST:
+                        await asyncio.sleep(0.05)
+                mark = await self.recorders[0].etcd.mark()
+                self.assertEqual((mark.epoch, mark.dropped, mark.place > before.place), (0, True, True))
+                async with self.following(self.user("publisher")) as late:
+                    await self.same(early, late)
+                away = View(self.user("publisher"))
+                away.state.identity, away.state.chain = early.state.identity, before
+                task = asyncio.create_task(away.follow())
+                self.assertTrue(await away.until(lambda _: away.caught_up))
+                await self.same(early, away)
+                task.cancel()
 
     async def test_etcd_gives_back_what_is_dropped(self) -> None:
         texts = [registration("publisher", number, 2) for number in range(4_000)]
@@ -225,7 +244,7 @@ class Steps(unittest.IsolatedAsyncioTestCase):
                         start(2)
             with contextlib.suppress(TimeoutError):
                 async with asyncio.timeout(30):
-                    while not memory.marked or memory.marked[-1].epoch < 4 or [it for it in memory.kept if it < 20]:
+                    while not memory.marked or memory.marked[-1].epoch < 4 or [it for it in memory.kept if it <= 20]:
                         await asyncio.sleep(0.005)
             self.assertEqual(memory.marked[-1].epoch, 4)
         finally:
@@ -245,14 +264,19 @@ class Steps(unittest.IsolatedAsyncioTestCase):
         self.assertGreater(min(memory.kept, default=99), 20)
 
     async def test_each_call_of_who_keeps_fails_in_turn(self) -> None:
-        quiet = contextlib.redirect_stderr(io.StringIO())
+        quiet, within = contextlib.redirect_stderr(io.StringIO()), 0
+        self.enterContext(mock.patch.object(keeping, "LEAST", 1))
         with mock.patch.multiple(recorder, POLL=0.01, GRACE=0.0), mock.patch.object(keeping, "PAUSE", 0.0), quiet:
             with mock.patch.object(keeping.asyncio, "sleep", self.no_sleep):
                 for seed in range(12):
                     memory = Memory()
                     first, step = 3 + seed % 6, 5 + seed
                     memory.plan = {it: ("before", "behind")[it % 2] for it in range(first, 3_000, step)}
+                    memory.used = 760 * (seed % 3 > 0)  # of a thousand: then checkpoints are written within epochs too
                     await self.go(memory, random.Random(seed), seed % 2 == 1)
+                    epochs = [it.epoch for it in memory.marked if it.dropped]
+                    within += len(epochs) - len({*epochs})
+        self.assertGreater(within, 5)
 
 
 if __name__ == "__main__":

@@ -3,14 +3,10 @@ each of which it posts once."""
 import asyncio
 import contextlib
 import io
-import os
 import pathlib
 import shutil
-import socket
 import sqlite3
 import tempfile
-import threading
-import time
 import types
 import unittest
 from typing import Any
@@ -20,8 +16,7 @@ import harness  # noqa: F401  # so that walrus is found
 from ledger_case import FOUNDED, registration
 from walrus import client
 from walrus.frames import METADATA, PRIMARY, SECONDARY, answer, code_of
-from walrus.network import notify, scrub, store
-from walrus.network.database import Database
+from walrus.network import scrub, store
 from walrus.network.entries import ACK, Entry
 from walrus.network.follower import Refused
 from walrus.network.judge import Busy
@@ -32,40 +27,6 @@ from walrus.network.shard import DECLINED
 from walrus.network.store import Store
 
 NAMES = [bytes([number]) * 32 for number in range(10)]
-
-
-class Start(unittest.TestCase):
-    def setUp(self) -> None:
-        folder = self.enterContext(tempfile.TemporaryDirectory())
-        self.manager = self.enterContext(socket.socket(socket.AF_UNIX, socket.SOCK_DGRAM))
-        self.manager.bind(f"{folder}/notify")
-        self.manager.settimeout(30)
-        self.enterContext(mock.patch.dict(os.environ, {"NOTIFY_SOCKET": f"{folder}/notify"}))
-        self.enterContext(mock.patch.object(notify, "EACH", 0.01))
-
-    def test_a_start_has_more_time_for_as_long_as_pages_are_checked(self) -> None:
-        """Otherwise the service manager ends a start in the middle of many pages, and the next one too."""
-        heard, database = list[bytes](), Database("")
-        self.addCleanup(database.close)
-
-        def execute(words: str) -> Any:
-            heard.extend(self.manager.recv(99) for _ in range(2))
-            return mock.Mock(fetchone=lambda: ("ok",))
-
-        with mock.patch.object(database, "base", mock.Mock(execute=execute)):
-            database.must_be_whole()
-        self.assertEqual(heard, [b"EXTEND_TIMEOUT_USEC=300000000"] * 2)
-        self.assertNotIn("extend", [it.name for it in threading.enumerate()])
-
-    def test_a_service_manager_that_hears_nothing_holds_up_no_start(self) -> None:
-        with socket.socket(socket.AF_UNIX, socket.SOCK_DGRAM) as other, contextlib.suppress(BlockingIOError):
-            other.setblocking(False)
-            while True:
-                other.sendto(b"x", self.manager.getsockname())
-        begun = time.monotonic()
-        with notify.extending():
-            time.sleep(0.1)
-        self.assertLess(time.monotonic() - begun, 30)
 
 
 class Pages(unittest.IsolatedAsyncioTestCase):

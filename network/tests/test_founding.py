@@ -17,6 +17,7 @@ from founding_case import THREE, FoundingCase
 from walrus.network import TOP, certificates, entries
 from walrus.network.founding import must_fit, owners_of
 from walrus.network.ledger import Entry, Ledger
+from walrus.network.local import Local
 from walrus.network.machine import Place, Unfounded
 from walrus.network.settings import GatewaySettings, RecorderSettings, Settings
 from walrus.network.transfers import Failure
@@ -192,6 +193,21 @@ class Changed(FoundingCase):
         left = {path.name for path in (self.folder / "hosts" / "delta").glob("delta*")}
         self.assertEqual(left, {f"delta.b.{end}" for end in ("toml", "crt", "key")})
 
+    async def test_settings_that_were_changed_in_the_founder_s_folder_stay(self) -> None:
+        """A machine that is replaced gets them; with a smaller quota than before it would stop the ledger."""
+        await self.found()
+        changed = {
+            path: path.read_text() + "\n" for path in self.folder.glob("hosts/*/*") if path.suffix in (".env", ".toml")
+        }
+        for path, text in changed.items():
+            path.write_text(text)
+        await self.says("add", self.folder, "delta=delta:31500", "epsilon=alpha:31501")
+        await self.says("renew", self.folder, "alpha", "etcd")
+        self.assertEqual({path: path.read_text() for path in changed}, changed)
+        page = (TOP / "network" / "OPERATING.md").read_text()
+        self.assertIn("Change the quota in `net/hosts/*/etcd.env` on desk too", page)
+        self.assertGreater(len(changed), 7)
+
     async def test_each_machine_has_the_units_of_the_version_that_changed_its_files_last(self) -> None:
         await self.found()
         unit = "units/walrus-etcd.service"
@@ -201,6 +217,18 @@ class Changed(FoundingCase):
                 (self.folder / "hosts" / host / unit).write_text("[Service]\n")  # as an earlier version had it
             await self.says(*words)
             self.assertEqual({path.read_text() for path in self.folder.glob(f"hosts/*/{unit}")}, {new})
+
+    async def test_on_one_machine_too_no_node_takes_a_name_whose_files_are_others(self) -> None:
+        local = Local(self.folder)
+        await local.found()
+        before = {path: path.read_bytes() for path in self.folder.rglob("*") if path.is_file()}
+        for name in ("etcd", "Authority", "etcd-authority", "recorder", "operator", "a b", "../x", "a=b", ""):
+            with self.assertRaises(Unfounded, msg=name):
+                await local.add_node(name)
+        there = {path: path.read_bytes() for path in self.folder.parent.rglob("*") if path.is_file()}
+        self.assertEqual(there, before)
+        await local.add_node("node-4")
+        self.assertTrue((self.folder / "node-4.toml").exists())
 
     async def test_nobody_is_told_to_expel_the_operator_and_nobody_can(self) -> None:
         await self.found()

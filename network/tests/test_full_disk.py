@@ -74,7 +74,7 @@ class Followers(FullCase, RulesCase):
             chain = Chain(0, bytes(32))
             for place in range(0, len(entries), 40):
                 some = entries[place : place + 40]  # noqa: E203
-                chain = chain.behind([it.key for it in some])
+                chain = chain.behind([it.text for it in some])
                 await view.enter(News(chain, some, len(entries), "ab"))
                 await asyncio.sleep(0)
 
@@ -115,7 +115,7 @@ class Followers(FullCase, RulesCase):
         entries = Chain(0, bytes(32)).followed([entry_key(OPERATOR, "begin", 0, 1, "a,b,c,d")])
         self.kept.ledger.apply(entries[0])
         self.kept.apply, Full.full = mock.Mock(side_effect=self.kept.ledger.apply), True
-        chain = Chain(0, bytes(32)).behind(it.key for it in entries)
+        chain = Chain(0, bytes(32)).behind(it.text for it in entries)
         self.kept.save(chain, entries)
         tried = Full.commits, self.kept.apply.call_count
         for room, tries in ((0, 0), (ROOM - 1, 0), (ROOM, 1)):

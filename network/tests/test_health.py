@@ -14,7 +14,7 @@ OWNERS = ["a", "b", "c", "d"]
 
 
 def ledger(acks: Any = (), home: int = 0, certified: Optional[int] = 0) -> Any:
-    blob = Blob(9, "p", {"ack": {home: frozenset(acks)}, "attest": {}})
+    blob = Blob(9, "p", {"ack": {home: sum(1 << it for it in acks)}, "attest": {}})
     made = mock.Mock(blobs={NAME: blob}, now=OWNERS, writing=OWNERS, quorum=3)
     made.home_epoch, made.owners = (lambda _: home), (lambda _: OWNERS)
     made.certificate = lambda _: None if certified is None else (certified, 3)

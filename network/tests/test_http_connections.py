@@ -131,7 +131,7 @@ class Handshakes(Coming):
     async def start_tls(self, seconds: float) -> None:
         """Starts the gateway with this deadline for handshakes."""
         make_authority(self.folder / "authority-web")
-        await make_certificate(self.folder, "web", by="authority-web")
+        make_certificate(self.folder, "web", by="authority-web")
         with mock.patch.object(connections, "HANDSHAKE", seconds):
             await self.start(tls_certificate=str(self.folder / "web.crt"), tls_key=str(self.folder / "web.key"))
 

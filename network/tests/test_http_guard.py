@@ -252,7 +252,7 @@ class Logs(GuardCase):
 
     async def test_tls(self) -> None:
         make_authority(self.folder / "authority-web")
-        await make_certificate(self.folder, "web", by="authority-web")
+        make_certificate(self.folder, "web", by="authority-web")
         paths = {"tls_certificate": str(self.folder / "web.crt"), "tls_key": str(self.folder / "web.key")}
         await self.start(**paths)
         context = ssl.create_default_context(cafile=self.folder / "authority-web.crt")
@@ -264,12 +264,12 @@ class Logs(GuardCase):
         for kind in ("crt", "key"):
             (self.folder / f"web.{kind}").rename(self.folder / f"old.{kind}")
         self.assertEqual(await self.certificate(context), (True, before))
-        await make_certificate(self.folder, "web", by="authority-web")
+        make_certificate(self.folder, "web", by="authority-web")
         await self.certificate(context)
         good, after = await self.certificate(context)
         self.assertEqual((good, after != before), (True, True))
         key, old = self.folder / "web.key", (self.folder / "web.key").read_bytes()
-        await make_certificate(self.folder, "web", by="authority-web")
+        make_certificate(self.folder, "web", by="authority-web")
         new = key.read_bytes()
         key.write_bytes(old)  # which does not fit the certificate yet
         self.assertEqual(await self.certificate(context), (True, after))

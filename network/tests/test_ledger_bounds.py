@@ -1,6 +1,7 @@
 """What one name can leave in the ledger, and at everyone who follows it, is bounded, whatever it posts or withholds."""
 import asyncio
 import random
+import tracemalloc
 import types
 import unittest
 import zlib
@@ -10,7 +11,7 @@ from unittest import mock
 from ledger_case import FOUNDED, FOUR, Chain, LedgerCase, Memory, registration
 from walrus import client
 from walrus.frames import answer
-from walrus.network import blobs, intake, recorder, shard
+from walrus.network import blobs, intake, keeping, recorder, recording, shard
 from walrus.network.entries import ACK, ATTEST, OPERATOR, Entry, entry_key
 from walrus.network.keeping import Keeper
 from walrus.network.ledger import ADDRESSES, Ledger
@@ -33,7 +34,7 @@ def entered(ledger: Ledger, *texts: str) -> list[object]:
     return [ledger.apply(Entry(ledger.revision + 1, text)) for text in texts]
 
 
-def uncounted(votes: Mapping[int, frozenset[int]], first: object) -> dict[int, frozenset[int]]:
+def uncounted(votes: Mapping[int, int], first: object) -> dict[int, int]:
     """Returns all votes, as earlier versions kept them."""
     return dict(votes)
 
@@ -76,6 +77,41 @@ class Waits(unittest.IsolatedAsyncioTestCase):
         await self.post(entry_key(OPERATOR, "expel", NODES[3]))
         self.assertTrue(await self.dropped())
 
+    async def test_what_fills_etcd_within_an_epoch_is_dropped_before_the_epoch_is_over(self) -> None:
+        """One node votes on every live blob, and no entry that ends the epoch would find room."""
+        self.enterContext(mock.patch.object(keeping, "LEAST", 100))
+        self.memory.used = 760
+        self.assertTrue(await self.dropped())
+        await self.post(*(registration("x", number, 9) for number in range(50)))
+        await self.post(*(f"{NODES[3]}/attest/1/{number:064x}" for number in range(50)), *turn(2)[:2])
+        [first] = {it.place for it in self.memory.marked}
+        self.assertFalse(await self.crowded(first, 740))
+        self.assertFalse(await self.crowded(first, 760))  # too few have come since
+        await self.post(*(f"{NODES[3]}/attest/2/{number:064x}" for number in range(50)))
+        self.assertTrue(await self.crowded(first, 760))
+        last = self.memory.marked[-1]
+        self.assertEqual((last.epoch, last.place, self.memory.kept), (1, self.recorder.chain.place, {}))
+        await self.post(*turn(2)[2:4])
+        service = recording.Service(self.recorder, mock.Mock())
+        for after in (0, first, last.place - 1):  # whoever needs what is dropped, also if this recorder still has it
+            self.assertEqual(await service.behind(after, "x"), (last, []))
+        _, batches = await service.behind(last.place, "x")
+        self.assertEqual(sum((it.entries for it in batches), []), turn(2)[2:4])
+        fresh = recorder.Recorder(self.memory)
+        self.addCleanup(fresh.state.close)
+        await fresh.catch_up()
+        self.assertEqual([*fresh.state.written()], [*self.recorder.state.written()])
+        await self.post(turn(2)[4])
+        await self.keeper.look()
+        self.assertEqual(self.memory.marked[-1].epoch, 2)
+
+    async def crowded(self, first: int, used: int) -> bool:
+        """Has the keeper look while etcd uses so much; returns whether it then drops what followed."""
+        self.memory.used = used
+        for _ in range(3):
+            await self.keeper.look()
+        return min(self.memory.kept, default=first + 99) > first + 1
+
 
 class Told(LedgerCase):
     async def test_etcd_tells_its_quota(self) -> None:
@@ -113,6 +149,28 @@ class Votes(unittest.TestCase):
         self.assertEqual(row, ('[{"0":15,"57":8,"58":8},{"57":8,"58":8}]', 0, None))
         self.assertEqual(ledger.certificate((1).to_bytes(32, "big")), (0, 4))
 
+    def test_those_of_a_thousand_shards_take_little_memory(self) -> None:
+        ledger, nodes, count = Ledger(), [f"node-{shard % 10}" for shard in range(1_000)], 1_000
+        entered(ledger, entry_key(OPERATOR, "begin", 0, 333, ",".join(nodes)))
+        tracemalloc.start()
+        self.addCleanup(tracemalloc.stop)
+        for number in range(count):
+            acks = [entry_key(it, ACK, 0, f"{number:064x}") for it in nodes[:8]]
+            said = entered(ledger, registration("x", number, 9), *acks)
+        self.assertEqual(said[-1], "certified 800")
+        self.assertLess(tracemalloc.get_traced_memory()[0] / count * blobs.CACHED, 16_000_000)  # all in memory
+
+    def test_no_recorder_appends_an_acknowledgement_of_what_was_certified_in_an_earlier_epoch(self) -> None:
+        """In a ledger it counts, as earlier recorders have appended it."""
+        ledger = Ledger()
+        entered(ledger, FOUNDED, *(registration("x", it, 99) for it in (1, 2)))
+        entered(ledger, *(f"{it}/ack/0/{1:064x}" for it in NODES[:3]))
+        for epoch, texts in ((0, []), (1, turn(1)), (2, turn(2)[:1])):  # at last during a handover
+            entered(ledger, *texts)
+            said = [ledger.fork().refused(Entry(99, f"node-3/ack/{epoch}/{number:064x}")) for number in (1, 2)]
+            self.assertEqual(said, ["the blob was certified in an earlier epoch" if epoch else "", ""], epoch)
+        self.assertEqual(entered(ledger, f"node-3/ack/2/{1:064x}"), ["counted 1"])
+
     def history(self, drawn: random.Random) -> list[str]:
         """Returns random entries of some thirty epochs, with epoch changes that may take long."""
         texts = [FOUNDED, *(f"x/register/{it.hex()}/{drawn.randrange(3, 50)}" for it in NAMES)]
@@ -133,7 +191,7 @@ class Votes(unittest.TestCase):
             found += [ledger.voted(kind, it, node) for kind in (ACK, ATTEST) for node in NODES]
             found += [shard.entries_of(ledger, epoch, it) for epoch in epochs]
             if blob := ledger.blobs.get(it):
-                found += [blob.votes[kind].get(epoch, set()) for kind in (ACK, ATTEST) for epoch in epochs]
+                found += [blob.votes[kind].get(epoch, 0) for kind in (ACK, ATTEST) for epoch in epochs]
         return found
 
     def test_without_votes_that_count_no_more_all_is_as_with_them(self) -> None:

@@ -133,7 +133,7 @@ class Places(unittest.IsolatedAsyncioTestCase):
         made.etcd = empty = Memory()
         with self.assertRaisesRegex(Broken, "etcd has no ledger any more, of which this recorder has read 1 entries"):
             await made.catch_up()
-        self.assertEqual(await empty.head(), "")
+        self.assertEqual(await empty.head(), b"")
 
     async def test_a_recorder_goes_on_in_the_midst_of_a_batch(self) -> None:
         """A restore cuts batches in other places. If the batch has other entries there, the recorder stops."""
@@ -141,7 +141,7 @@ class Places(unittest.IsolatedAsyncioTestCase):
         other = [*texts[:3], registration("y", 9), *texts[4:]]
         for cut, entries, whole in (([1, 3, 6], texts, True), ([6], texts, True), ([2, 6], other, False)):
             etcd, made = Memory(), Recorder(Memory())
-            await made.etcd.append("", made.head(made.chain))
+            await made.etcd.append(b"", made.head(made.chain))
             await made.catch_up()
             chain = made.chain
             for text in texts[:4]:

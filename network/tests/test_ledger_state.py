@@ -30,7 +30,7 @@ class States(RulesCase):
                 kept = State.open(path)
                 for entry in random_entries(drawn, [list("abcd"), list("abce"), list("aabb")]):
                     self.assertEqual(kept.ledger.apply(entry), ledger.apply(entry), entry)
-                    chain = chain.behind([entry.key])
+                    chain = chain.behind([entry.text])
                     if drawn.random() < 0.1:
                         kept.save(chain)
                         kept.close()
@@ -48,7 +48,7 @@ class States(RulesCase):
                 for place, entry in enumerate(entries):
                     for each in (whole, *others):
                         each.ledger.apply(entry)
-                    chain = chain.behind([entry.key])
+                    chain = chain.behind([entry.text])
                     for each in (whole, *others):
                         each.save(chain)
                     others.append(State())
@@ -84,7 +84,7 @@ class States(RulesCase):
         entries = chain.followed([entry_key(OPERATOR, "begin", 0, 1, "a,b,c,d"), *texts])
         for entry in entries:
             other.ledger.apply(entry)
-        other.save(chain.behind(it.key for it in entries))
+        other.save(chain.behind(it.text for it in entries))
         pieces = [*map(zlib.compress, other.written())]
         with tempfile.TemporaryDirectory() as folder, contextlib.closing(State(f"{folder}/kept", 2)) as kept:
             with mock.patch.multiple(state, STEPS=200, alive=lambda: told.append("it goes on")):
@@ -100,18 +100,18 @@ class States(RulesCase):
             for entry in random_entries(random.Random(5), COMMITTEES):
                 epoch = kept.ledger.epoch
                 kept.ledger.apply(entry)
-                chain = chain.behind([entry.key])
+                chain = chain.behind([entry.text])
                 turns += [chain.place] * (kept.ledger.epoch != epoch)
                 entries.append(entry)
                 kept.save(chain, [entry])
-                self.assertEqual(kept.entries(), [it for it in entries if it.revision > turns[-2]])
+                self.assertEqual(kept.entries(), [it for it in entries if it.place > turns[-2]])
             self.assertGreater(len(turns), 4)
             kept.close()
             kept = State(f"{folder}/kept", 2)
             kept.ledger.apply(Entry(chain.place + 1, "x"))
             kept.save(chain.behind(["x"]), [Entry(chain.place + 1, "x")])
             self.assertEqual(
-                kept.entries(), [*(it for it in entries if it.revision > turns[-2]), Entry(chain.place + 1, "x")]
+                kept.entries(), [*(it for it in entries if it.place > turns[-2]), Entry(chain.place + 1, "x")]
             )
             self.assertEqual(kept.entries(chain.place - 3, 3), entries[-3:])
             kept.close()
@@ -182,7 +182,7 @@ class States(RulesCase):
             owners, blobs = ",".join("abcd"), [entry_key("x", "register", f"{it:064}", 5) for it in range(3)]
             self.assertEqual(enter(entry_key(OPERATOR, "begin", 0, 1, owners)), 1)
             self.assertEqual((enter(*blobs), kept.whole), (1, False))
-            self.assertEqual([it.key for it in kept.entries(1)], blobs)  # and can be asked for
+            self.assertEqual([it.text for it in kept.entries(1)], blobs)  # and can be asked for
             self.assertEqual((enter(), kept.whole), (4, True))
             turn = [entry_key(OPERATOR, "begin", 1, 1, owners), *(entry_key(it, "ready", 1) for it in "abc")]
             self.assertEqual(enter(*turn), 4)
@@ -211,7 +211,7 @@ class States(RulesCase):
             for place, entry in enumerate(random_entries(random.Random(7), COMMITTEES)):
                 full = place % 50 > 20
                 self.assertEqual(kept.ledger.apply(entry), ledger.apply(entry))
-                chain = chain.behind([entry.key])
+                chain = chain.behind([entry.text])
                 with contextlib.redirect_stderr(io.StringIO()):
                     kept.save(chain, [entry])
                 self.same(ledger, kept.ledger)
@@ -221,7 +221,7 @@ class States(RulesCase):
             kept.close()
             kept = State(f"{folder}/kept", 2)
             self.same(ledger, kept.ledger)
-            self.assertEqual(kept.entries()[-1].revision, chain.place)
+            self.assertEqual(kept.entries()[-1].place, chain.place)
             kept.close()
 
     def test_what_a_disk_did_not_take_at_first_is_entered_once(self) -> None:
@@ -234,7 +234,7 @@ class States(RulesCase):
             kept.base.execute("PRAGMA max_page_count = 1")  # no more than it has
             for _ in range(2):
                 kept.again, kept.identity = 0.0, "ab"
-                kept.save(chain.behind(it.key for it in entries), [] if kept.fresh else entries)
+                kept.save(chain.behind(it.text for it in entries), [] if kept.fresh else entries)
                 self.assertEqual((kept.whole, kept.identity), (False, "ab"))
             kept.base.execute("PRAGMA max_page_count = 100000")
             kept.again = 0.0

@@ -13,6 +13,7 @@ import example_tools  # noqa: E402
 import trace_run  # noqa: E402
 from walrus import client, frames  # noqa: E402
 from walrus.network import configuration, ledger  # noqa: E402
+from walrus.network.blobs import shards_in  # noqa: E402
 from walrus.network.client import Network  # noqa: E402
 from walrus.network.local import find_program  # noqa: E402
 from walrus.network.settings import Settings  # noqa: E402
@@ -26,7 +27,7 @@ class Story(NetworkCase):
                 await self.store(network, size)
             await self.store(network, 900, form=2)
             await network.until(lambda it: all(it.certificate(name) == (0, 4) for name in self.blobs), 10)
-            votes = [network.ledger.blobs[it].votes[ledger.ACK][0] for it in self.blobs]
+            votes = [shards_in(network.ledger.blobs[it].votes[ledger.ACK][0]) for it in self.blobs]
             first = sorted(set.intersection(*map(set, votes)))[
                 :2
             ]  # two that acknowledged all of it, and then the others

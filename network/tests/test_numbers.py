@@ -6,7 +6,7 @@ import unittest
 import aiohttp
 from guard_case import GuardCase
 from harness import FOUR, NetworkCase
-from walrus.network import checking
+from walrus.network import certificates, checking
 from walrus.network.local import free_port
 from walrus.network.times import BOUNDS, Times
 
@@ -62,6 +62,7 @@ class Gateway(GuardCase):
         self.assertEqual(found["walrus_http_seconds_count", (("method", "GET"), ("path", "other"))], 1)
         self.assertGreater(found["walrus_ledger_place", ()], 0)
         self.assertLessEqual(found["walrus_storing", ()], 4)
+        self.assertAlmostEqual(found["walrus_certificate_days", ()], certificates.DAYS, delta=1)
         self.assertGreater(found["process_resident_memory_bytes", ()], 1_000_000)
 
     def test_times_fall_into_their_buckets(self) -> None:
@@ -116,6 +117,7 @@ class Node(NetworkCase):
         self.assertEqual(found["walrus_request_seconds_count", (("kind", "store"),)], 1)
         self.assertGreater(found["walrus_request_bytes_total", (("way", "in"),)], 150_000)
         self.assertGreater(found["walrus_ledger_place", ()], 0)
+        self.assertAlmostEqual(found["walrus_certificate_days", ()], certificates.DAYS, delta=1)
         await self.check()
 
 

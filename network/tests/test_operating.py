@@ -3,9 +3,7 @@ import argparse
 import asyncio
 import contextlib
 import io
-import json
 import os
-import pathlib
 import shutil
 import ssl
 import unittest
@@ -236,16 +234,6 @@ class Handover(LedgerCase):
         self.assertIn("Writer is expelled, from place", await expel("Writer", yes=True))
         async with self.following(self.user("publisher")) as view:
             self.assertEqual(view.ledger.expelled, {"writer", "Writer"})
-
-    async def test_the_first_epoch_of_a_plan_begins_once_however_often_the_command_is_repeated(self) -> None:
-        """The plan may have other nodes by then."""
-        plan = self.local.told() | {"nodes": {"node-0": ["alpha", 1, 4]}, "faults": 1}
-        pathlib.Path(self.folder, "network.json").write_text(json.dumps(plan))
-        told = json.dumps({"epoch": 0, "nodes": NODES, "ended": []})
-        for as_json, wanted in ((False, "epoch 0 has begun before: nothing was begun"), (True, told)):
-            with contextlib.redirect_stdout(io.StringIO()) as said:
-                self.assertEqual(await operating.begin(argparse.Namespace(folder=self.folder, json=as_json)), 0)
-            self.assertEqual(said.getvalue(), f"{wanted}\n")
 
 
 class Arranged(unittest.TestCase):

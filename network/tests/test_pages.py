@@ -13,7 +13,7 @@ from typing import Any
 
 import harness
 from walrus import port
-from walrus.network import intake, node
+from walrus.network import certificates, intake, node
 from walrus.network.checking import KINDS
 
 PIPE: Any = {"capture_output": True, "text": True}
@@ -36,6 +36,17 @@ class Pages(unittest.TestCase):
         unit, page = ((harness.HERE.parent / it).read_text() for it in ("units/walrus-node@.service", "OPERATING.md"))
         [most] = re.findall(r"^LimitNOFILE=(\d+)$", unit, re.MULTILINE)
         self.assertIn(f"(`LimitNOFILE` of the unit is {int(most):,})", page)
+
+    def test_the_page_does_not_promise_what_is_lost_with_more_than_f_shards(self) -> None:
+        page = (harness.HERE.parent / "OPERATING.md").read_text()
+        self.assertIn("only what both others hold is still read: a blob that one of them lacked then", page)
+        self.assertIn("If fewer than f+1 shards hold one of these", page)
+
+    def test_the_page_says_for_how_long_certificates_are_valid_and_what_warns(self) -> None:
+        page = (harness.HERE.parent / "OPERATING.md").read_text()
+        self.assertIn(f"A certificate is valid for {certificates.DAYS:g} days, ", page)
+        self.assertIn(f"From {certificates.SOON:g} days before, each service says so", page)
+        self.assertRegex(page, f"Useful alarms: .*`walrus_certificate_days < {certificates.SOON:g}`")
 
     @unittest.skipUnless(
         shutil.which("systemd-analyze") and shutil.which("etcd"), "systemd-analyze or etcd is not here"
@@ -89,6 +100,9 @@ class Pages(unittest.TestCase):
     def test_the_line_for_a_timer_names_the_epoch_that_is_due_and_the_next_one_at_most(self) -> None:
         page = (harness.HERE.parent / "OPERATING.md").read_text()
         [line] = re.findall(r"--epoch \$\(walrus-net status --json \| jq '(.*?)'\)", page)
+        self.assertRegex(
+            page, r"NTPSynchronized .*\)\" = yes \] && walrus-net handover FOLDER --yes --force --epoch \$"
+        )
         cases = [(0, 0.1, 0), (0, 13.9, 0), (0, 14.1, 1), (1, 14.1, 1), (0, 99, 1), (5, 99, 6), (8, 99, 7), (0, -1, -1)]
         for epoch, days, due in cases:  # days since the plan began, which may be in the future
             plan = {"epoch": 0, "since": int(time.time() - 86_400 * days), "seconds": 14 * 86_400, "next": None}
@@ -96,6 +110,11 @@ class Pages(unittest.TestCase):
             self.assertEqual((ran.returncode, ran.stdout), (0, f"{due}\n"), (epoch, days))
         for told in (json.dumps({"epoch": 3, "calendar": None}), ""):
             self.assertEqual(subprocess.run(["jq", line], input=told, **PIPE).stdout, "")  # so nothing begins
+
+    def test_systemd_waits_for_a_start_however_long_pages_are_checked(self) -> None:
+        """Otherwise it ends a start in the middle of many pages, and the next one too."""
+        for unit in (harness.HERE.parent / "units").glob("*.service"):
+            self.assertIn("\nTimeoutStartSec=infinity\n", unit.read_text(), unit.name)
 
     def test_a_disk_for_which_linux_waits_costs_no_node(self) -> None:
         """It gives a command up after 30 s and five retries; the last beat may be a third of the time ago."""

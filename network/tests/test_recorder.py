@@ -31,7 +31,7 @@ class Adversary(LedgerCase):
             self.assertEqual(len(view.ledger.blobs), 1)
 
     async def test_who_has_no_certificate_of_the_network_is_not_heard(self) -> None:
-        await make_certificate(self.folder, "users/stranger", by=ETCD_AUTHORITY)
+        make_certificate(self.folder, "users/stranger", by=ETCD_AUTHORITY)
         certificates.make(self.folder / "users" / "old", self.folder / AUTHORITY, "old", ["old"], days=-0.01)
         for name in ("", "stranger", "old"):
             with self.assertRaises((aiohttp.ClientError, ssl.SSLError), msg=name):

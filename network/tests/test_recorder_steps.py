@@ -14,7 +14,7 @@ from typing import Any
 from unittest import mock
 
 from ledger_case import FOUNDED, Memory, registration
-from walrus.network import keeping, recorder, recording, state
+from walrus.network import certificates, keeping, recorder, recording, state
 from walrus.network.entries import ADDRESS, Chain, entry_key
 from walrus.network.etcd import Batch
 from walrus.network.settings import RecorderSettings
@@ -72,6 +72,8 @@ class FullDisk(unittest.IsolatedAsyncioTestCase):
         words = {it.name: "" for it in dataclasses.fields(RecorderSettings) if it.default is dataclasses.MISSING}
         for etcd, text in ((Memory(), "etcd has no ledger any more"), (other.etcd, "etcd has another ledger")):
             with tempfile.TemporaryDirectory() as folder:
+                certificates.make_authority(pathlib.Path(folder, "own"))
+                words |= dict.fromkeys(("certificate", "etcd_certificate"), f"{folder}/own.crt")
                 settings = RecorderSettings(**{**words, "name": "recorder-0", "state": f"{folder}/kept"})
                 kept = state.State.open(settings.state)
                 made = recorder.Recorder(Memory(), kept)

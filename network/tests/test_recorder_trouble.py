@@ -144,7 +144,7 @@ class Trouble(Loaded):
             if not hasattr(self, "birth"):
                 self.birth = news.chain.digest
             for entry in news.entries:
-                yield entry.key
+                yield entry.text
             if news.chain == view.chain:
                 return
 

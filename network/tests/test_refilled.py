@@ -44,7 +44,7 @@ class Refilled(NetworkCase):
             await self.local.end("node-0", kill=True)
             await self.reads_all(network)
             await self.local.start_node("node-0")
-        self.assertGreater(self.record("node-3").entries[0].revision, 20)
+        self.assertGreater(self.record("node-3").entries[0].place, 20)
         await self.check()
 
     async def recovered(self, name: str, count: int) -> None:

@@ -29,7 +29,7 @@ class Liar(State):
 
     def entries(self, after: int = -1, count: int = -1) -> Any:
         found = super().entries(after, count)
-        return [type(it)(it.revision, registration("liar", it.revision)) for it in found]
+        return [type(it)(it.place, registration("liar", it.place)) for it in found]
 
 
 class Agreed(unittest.IsolatedAsyncioTestCase):
@@ -75,7 +75,7 @@ class Agreed(unittest.IsolatedAsyncioTestCase):
         self.addCleanup(service.recorder.state.close)
         with self.assertRaisesRegex(Broken, "etcd has no ledger"):
             await service.find_end(60, asyncio.Event())
-        self.assertEqual(await memory.head(), "")
+        self.assertEqual(await memory.head(), b"")
 
     async def test_etcd_that_has_just_been_started_is_waited_for_but_not_for_ever(self) -> None:
         self.enterContext(mock.patch.object(restoring, "POLL", 0.01))

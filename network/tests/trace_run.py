@@ -95,8 +95,8 @@ class Trace:
                 answered[row[1]].append((name, row))
         for place, entry in enumerate(entries):
             self.steps.extend(self.enter(entry))
-            if place + 1 == len(entries) or entries[place + 1].revision > entry.revision:
-                for name, row in answered.pop(entry.revision, ()):
+            if place + 1 == len(entries) or entries[place + 1].place > entry.place:
+                for name, row in answered.pop(entry.place, ()):
                     self.steps.extend(self.answer(name, *row))
         if answered:
             raise Parted(f"answers stand behind revisions {sorted(answered)[:3]} that no entry has")
@@ -137,7 +137,7 @@ class Trace:
             owners = tuple(fields[2].split(","))
             stays = [shard for shard, (one, two) in enumerate(zip(before, owners)) if one == two]
             event |= {"stays": stays, **self.committee(owners)} if word[:5] == "epoch" else {"stays": [], "faulty": []}
-        yield Step(event, f"{text} {word}", f"the ledger's place {entry.revision}, {entry.key}")
+        yield Step(event, f"{text} {word}", f"the ledger's place {entry.place}, {entry.text}")
 
     def side(self, epoch: int, source: str) -> str:
         if epoch - self.ledger.epoch not in range(1 + self.ledger.moving):
@@ -175,7 +175,7 @@ class Trace:
         ledger = self.ledger
         for identifier, blob in sorted(ledger.blobs.items()):
             digits, found = identifier.hex(), ledger.certificate(identifier)
-            acks = len(blob.votes[ACK].get(ledger.writing_epoch, ()))
+            acks = blob.votes[ACK].get(ledger.writing_epoch, 0).bit_count()
             word = f"epoch {found[0]} count {found[1]}" if found else f"pending {acks}"
             yield Step({"do": "certificate", "id": digits}, f"certificate {digits} {word}", "the ledger at the end")
             epoch = ledger.home_epoch(identifier)

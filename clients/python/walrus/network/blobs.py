@@ -32,12 +32,13 @@ TABLES = (
 )
 DERIVED = "INDEX of_epoch", "INDEX of_number", "TRIGGER made", "TRIGGER changed"  # cheaper made anew for many rows
 ALL = "SELECT * FROM blobs WHERE until > ? ORDER BY identifier"
+# A row that was changed comes with the number 0, and keeps the one that it has.
 PUT = """INSERT INTO blobs VALUES (?, ?, ?, ?, ?, ?, ?) ON CONFLICT DO UPDATE SET
     number = max(number, excluded.number), until = excluded.until, poster = excluded.poster, votes = excluded.votes,
     certified = excluded.certified, invalid = excluded.invalid"""
 ENDING = """SELECT identifier FROM blobs WHERE identifier > ? AND until > ? AND until <= ?
     ORDER BY identifier LIMIT ?"""
-Votes = Mapping[str, Mapping[int, frozenset[int]]]
+Votes = Mapping[int, int]  # by epoch, the shards that voted, as the bits of a number: for a thousand a set takes 33 kB
 
 
 @dataclasses.dataclass(frozen=True)
@@ -47,24 +48,24 @@ class Blob:
 
     until: int
     poster: str
-    votes: Votes = dataclasses.field(default_factory=lambda: {ACK: {}, ATTEST: {}})
+    votes: Mapping[str, Votes] = dataclasses.field(default_factory=lambda: {ACK: {}, ATTEST: {}})
 
     def quorum(self, kind: str, needed: int) -> Optional[tuple[int, int]]:
         """Returns the first epoch in which `needed` shards or more voted so, and their number; or None."""
         for epoch, shards in sorted(self.votes[kind].items()):
-            if len(shards) >= needed:
-                return epoch, len(shards)
+            if (count := shards.bit_count()) >= needed:
+                return epoch, count
         return None
 
-    def voted(self, kind: str, epoch: int, shards: frozenset[int], needed: int) -> "Blob":
+    def voted(self, kind: str, epoch: int, shards: int, needed: int) -> "Blob":
         """Returns this blob with the votes of these shards added and those dropped that no longer count. `needed`
         shards are a quorum."""
-        votes = {**self.votes[kind], epoch: self.votes[kind].get(epoch, frozenset()) | shards}
-        first = min((it for it, said in votes.items() if len(said) >= needed), default=None)
+        votes = {**self.votes[kind], epoch: self.votes[kind].get(epoch, 0) | shards}
+        first = min((it for it, said in votes.items() if said.bit_count() >= needed), default=None)
         return Blob(self.until, self.poster, {**self.votes, kind: counting(votes, first)})
 
 
-def counting(votes: Mapping[int, frozenset[int]], first: Optional[int]) -> dict[int, frozenset[int]]:
+def counting(votes: Votes, first: Optional[int]) -> Votes:
     """Returns those votes of a kind that the rules may still ask for: the ones of `first`, the first epoch with a
     quorum, and of the last epoch with votes and the one before, which may be those of both committees. Earlier epochs
     get no more votes, and so no quorum. The result depends on the votes alone: whether the others are dropped with each
@@ -72,23 +73,18 @@ def counting(votes: Mapping[int, frozenset[int]], first: Optional[int]) -> dict[
     return {epoch: said for epoch, said in votes.items() if epoch == first or epoch >= max(votes) - 1}
 
 
-def coded(votes: Mapping[int, frozenset[int]]) -> dict[int, int]:
-    """Encodes the shards that voted in each epoch as the bits of a number."""
-    return {epoch: sum(1 << shard for shard in shards) for epoch, shards in sorted(votes.items())}
-
-
-def decoded(votes: dict[str, int]) -> dict[int, frozenset[int]]:
-    """Decodes such numbers."""
-    return {int(it): frozenset(n for n in range(bits.bit_length()) if bits >> n & 1) for it, bits in votes.items()}
+def shards_in(bits: int) -> list[int]:
+    """Returns the shards that are the bits of a number, in order."""
+    return [shard for shard in range(bits.bit_length()) if bits >> shard & 1]
 
 
 def blob_of(until: int, poster: str, votes: str) -> Blob:
-    acks, attests = map(decoded, json.loads(votes))
+    acks, attests = ({int(epoch): bits for epoch, bits in it.items()} for it in json.loads(votes))
     return Blob(until, poster, {ACK: acks, ATTEST: attests})
 
 
-def text_of(votes: Votes) -> str:
-    return json.dumps([coded(votes[kind]) for kind in (ACK, ATTEST)], separators=(",", ":"))
+def text_of(votes: Mapping[str, Votes]) -> str:
+    return json.dumps([dict(sorted(votes[kind].items())) for kind in (ACK, ATTEST)], separators=(",", ":"))
 
 
 def without_past(row: Row) -> Row:
@@ -119,7 +115,7 @@ class Blobs(Mapping[bytes, Blob]):
         self.base = base or sqlite3.connect(":memory:", isolation_level=None)
         self.make()
         self.kept = dict[bytes, Optional[Blob]]()  # in memory; None if the ledger has no such blob
-        self.numbers = dict[bytes, int]()  # of new blobs that the database lacks, and 0 of blobs that were changed
+        self.numbers = dict[bytes, int]()  # of new blobs that the database lacks, and 0 of others that were changed
 
     def make(self) -> None:
         for words in TABLES:

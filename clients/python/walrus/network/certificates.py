@@ -1,9 +1,13 @@
 """Keys and certificates: authorities, whose certificates are self-signed, and certificates of names that they sign."""
+import asyncio
+import contextlib
 import datetime
 import ipaddress
 import os
 import pathlib
-from typing import Any, Iterable, Optional, Union
+import ssl
+import sys
+from typing import Any, Iterable, Optional
 
 from cryptography import x509
 from cryptography.exceptions import InvalidSignature
@@ -12,7 +16,10 @@ from cryptography.hazmat.primitives.asymmetric import ec
 from cryptography.x509.oid import ExtendedKeyUsageOID, NameOID
 
 AUTHORITY_DAYS, DAYS = 3_650.0, 825.0
+SOON, DAY = 30.0, 86_400.0  # days before a certificate expires in which a warning is given; seconds
 EARLIER = datetime.timedelta(hours=1)  # by which a certificate is valid before it was made, for clocks that are slow
+LATE = ": renew it (walrus-net renew)"
+EARLY = "; if it was fast where this was made, renew it there (walrus-net renew)"
 Key = ec.EllipticCurvePrivateKey
 
 
@@ -104,7 +111,18 @@ def names_of(certificate: x509.Certificate) -> list[str]:
 
 
 def days_left(certificate: x509.Certificate) -> float:
-    return (certificate.not_valid_after - datetime.datetime.utcnow()).total_seconds() / 86_400
+    return (certificate.not_valid_after - datetime.datetime.utcnow()).total_seconds() / DAY
+
+
+async def watch(name: str, loaded: x509.Certificate) -> None:
+    """Prints once a day that the certificate that a service has loaded expires soon."""
+    while True:
+        if days_left(loaded) < SOON:
+            text = f"{name}: the certificate of {common_name(loaded)} that is loaded expires on "
+            text += f"{loaded.not_valid_after:%Y-%m-%d}: renew it (walrus-net renew), and restart this service"
+            with contextlib.suppress(OSError):
+                print(text, file=sys.stderr, flush=True)
+        await asyncio.sleep(DAY)
 
 
 def early(certificate: x509.Certificate) -> str:
@@ -126,32 +144,38 @@ def is_signed(certificate: x509.Certificate, authority: x509.Certificate) -> boo
     return certificate.issuer == authority.subject
 
 
-def faults_of(certificate: pathlib.Path, key: pathlib.Path, authority: pathlib.Path, name: Optional[str]) -> list[str]:
-    """Returns what is wrong with a certificate, its key, its signature and its common name, as sentences."""
-    faults: list[str] = []
-    found: dict[pathlib.Path, Union[x509.Certificate, Key]] = {}
-    for path in (certificate, key, authority):
+def fault_of_key(key: pathlib.Path, certificate: pathlib.Path) -> str:
+    """Returns why OpenSSL does not take a key for a certificate, which is there; an empty text if it does."""
+    try:
+        key.read_bytes()  # whose fault names the file
+        ssl.SSLContext(ssl.PROTOCOL_TLS_SERVER).load_cert_chain(certificate, key, password="")
+    except ssl.SSLError as fault:
+        return f"{key} is not the key of {certificate}, or has a password: {fault}"
+    except OSError as fault:
+        return str(fault)
+    return ""
+
+
+def faults_of(
+    certificate: pathlib.Path, key: pathlib.Path, authority: Optional[pathlib.Path] = None, name: Optional[str] = None
+) -> list[str]:
+    """Returns what is wrong with a certificate, its key, its signature and its common name, as sentences. Without an
+    authority it is a certificate that others signed."""
+    faults, found, is_ours = list[str](), dict[pathlib.Path, x509.Certificate](), authority is not None
+    for path in filter(None, (certificate, authority)):
         try:
-            found[path] = read_key(path) if path == key else read(path)
-        except (OSError, ValueError, TypeError) as fault:
+            found[path] = it = read(path)
+        except (OSError, ValueError) as fault:
             faults.append(str(fault))
-    own, owner, signer = (found.get(path) for path in (certificate, key, authority))
-    for path, it in ((certificate, own), (authority, signer)):
-        if isinstance(it, x509.Certificate) and days_left(it) < 0:
-            faults.append(f"{path} has expired on {it.not_valid_after:%Y-%m-%d}: renew it (walrus-net renew)")
-        if isinstance(it, x509.Certificate) and (text := early(it)):
-            faults.append(f"{path} {text}; if it was fast where this was made, renew it there (walrus-net renew)")
-    if isinstance(own, x509.Certificate):
-        if isinstance(owner, Key) and public(own) != public(owner):
-            faults.append(f"{key} is not the key of {certificate}")
-        if isinstance(signer, x509.Certificate) and not is_signed(own, signer):
+            continue
+        if days_left(it) < 0:
+            faults.append(f"{path} has expired on {it.not_valid_after:%Y-%m-%d}{LATE if is_ours else ''}")
+        if text := early(it):
+            faults.append(f"{path} {text}{EARLY if is_ours else ''}")
+    if own := found.get(certificate):
+        faults += filter(None, [fault_of_key(key, certificate)])
+        if authority in found and not is_signed(own, found[authority]):
             faults.append(f"{certificate} was not signed by {authority}")
         if name is not None and common_name(own) != name:
             faults.append(f"{certificate} has the name {common_name(own)}, not {name}")
     return faults
-
-
-def public(owner: Union[x509.Certificate, Key]) -> bytes:
-    """Returns the public key of a certificate or of a key, encoded."""
-    form = serialization.PublicFormat.SubjectPublicKeyInfo
-    return owner.public_key().public_bytes(serialization.Encoding.DER, form)

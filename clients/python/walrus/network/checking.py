@@ -2,18 +2,17 @@
 import os
 import pathlib
 import re
-import ssl
 import stat
 from typing import Any
 
 from . import certificates, tokens, units
-from .configuration import Role, Wrong, faults_in, located, values_of
+from .certificates import SOON
+from .configuration import Role, Wrong, faults_in, placed, values_of
 from .machine import is_known_to_tls
 from .settings import GatewaySettings, RecorderSettings, Settings
 
 KINDS: tuple[type[Role], ...] = (Settings, RecorderSettings, GatewaySettings)
 ROLES = {it.role: it for it in KINDS}
-SOON = 30.0  # days before a certificate expires in which a warning is given
 
 
 def check(path: pathlib.Path) -> tuple[str, list[str], list[str]]:
@@ -25,10 +24,9 @@ def check(path: pathlib.Path) -> tuple[str, list[str], list[str]]:
     role = values.get("role", "")
     if role not in ROLES:
         return "", [f"it has no role, which is {' or '.join(ROLES)}"], []
-    faults, kind = faults_in(ROLES[role], values), ROLES[role]
-    if faults:
+    if faults := faults_in(ROLES[role], values):
         return role, faults, []
-    told = {**values, **{it: located(path, values[it]) for it in kind.paths if values.get(it)}}
+    told = placed(ROLES[role], path, values)
     faults += faults_of_places(told) + faults_of_files(told) + faults_of_keys(told) + faults_of_https(told)
     if role == GatewaySettings.role:
         places = tokens.places(pathlib.Path(told["authority"]).parent, told.get("tokens", ""), told.get("used", ""))
@@ -97,17 +95,7 @@ def faults_of_https(told: dict[str, Any]) -> list[str]:
     if len(names) < 2:
         return ["tls_certificate and tls_key go together"] if names else []
     own, key = map(pathlib.Path, names)
-    try:
-        found, _ = certificates.read(own), key.read_bytes()
-        ssl.SSLContext(ssl.PROTOCOL_TLS_SERVER).load_cert_chain(own, key, password="")
-    except ssl.SSLError as fault:
-        return [f"{key} is not the key of {own}, or has a password: {fault}"]
-    except (OSError, ValueError) as fault:
-        return [str(fault)]
-    if text := certificates.early(found):
-        return [f"{own} {text}"]
-    left = certificates.days_left(found)
-    return [f"{own} has expired on {found.not_valid_after:%Y-%m-%d}"] if left < 0 else []
+    return certificates.faults_of(own, key)
 
 
 def is_open(path: pathlib.Path) -> bool:

@@ -61,11 +61,8 @@ class Network(View):
         access = folder if isinstance(folder, Access) else Access.within(folder, user)
         recorders = Recorders(access.recorders, access.authority, access.certificate, access.key)
         super().__init__(recorders, State.open(access.state) if kept else State())
-        self.user, self.walrus, self.authority = (
-            access.user,
-            Calls.of(access.program),
-            pathlib.Path(access.authority),
-        )
+        self.user, self.walrus = access.user, Calls.of(access.program)
+        self.authority, self.certificate = pathlib.Path(access.authority), pathlib.Path(access.certificate)
         self.peers = Peers(self.ledger, self.authority, seconds)
         self.task: Optional["asyncio.Task[None]"] = None
         self.late, self.behind = set["asyncio.Task[dict[int, str]]"](), collections.Counter[str]()

@@ -1,7 +1,7 @@
 """Files of settings, one for each service: reading, checking and writing them.
 
-A file is TOML. Its `role` names the kind of service, whose dataclass has the other names. Paths are relative to the
-file."""
+A file is TOML. Its `role` names the kind of service, whose dataclass has the other names. Paths (`File`) are relative
+to the file."""
 import dataclasses
 import ipaddress
 import json
@@ -9,19 +9,10 @@ import os
 import pathlib
 import tomllib
 import typing
-from typing import Any, ClassVar, Mapping, Protocol, TypeVar
+from typing import Annotated, Any, ClassVar, Mapping, Self
 
-
-class Role(Protocol):
-    """A dataclass with the settings of a role."""
-
-    role: ClassVar[str]
-    paths: ClassVar[tuple[str, ...]]  # the settings that are paths
-    __dataclass_fields__: ClassVar[dict[str, Any]]
-
-
-Kind = TypeVar("Kind", bound=Role)
-WORDS = {str: "a text", int: "a whole number", float: "a number", bool: "true or false"}
+File = Annotated[str, "a path, relative to the file of settings"]
+WORDS = {str: "a text", File: "a text", int: "a whole number", float: "a number", bool: "true or false"}
 # The least values of numbers by their names; 0 for all others. With less a service would ask without a pause (probe),
 # take the ledger for away between two lines of a recorder, which come each second (stale), or wait for ever.
 LEAST = {"scrub_rate": 1, "connections": 1, "uploads": 1, "turns": 1, "epochs": 1, "probe": 0.1, "stale": 2}
@@ -29,6 +20,21 @@ LEAST = {"scrub_rate": 1, "connections": 1, "uploads": 1, "turns": 1, "epochs": 
 
 class Wrong(ValueError):
     """A file of settings is wrong; the text has all its faults."""
+
+
+@dataclasses.dataclass
+class Role:
+    """The settings of a kind of service, which a subclass lists."""
+
+    role: ClassVar[str]
+
+    @classmethod
+    def read(cls, path: pathlib.Path) -> Self:
+        """Return the settings from a file; raises `Wrong`."""
+        values = values_of(path)
+        if faults := faults_in(cls, values):
+            raise Wrong(f"{path}: {'; '.join(faults)}")
+        return cls(**{name: it for name, it in placed(cls, path, values).items() if name != "role"})
 
 
 def words_of(kind: Any) -> str:
@@ -39,7 +45,7 @@ def fits(value: Any, kind: Any) -> bool:
     """Return whether a value from a file has the type of a field of a dataclass."""
     if typing.get_origin(kind) is list:
         return isinstance(value, list) and all(fits(it, typing.get_args(kind)[0]) for it in value)
-    return type(value) in ((int, float) if kind is float else (kind,))
+    return type(value) in {float: (int, float), File: (str,)}.get(kind, (kind,))
 
 
 def values_of(path: pathlib.Path) -> dict[str, Any]:
@@ -103,13 +109,10 @@ def located(path: pathlib.Path, text: str) -> str:
     return str(path.parent / text)
 
 
-def settings_of(kind: type[Kind], path: pathlib.Path) -> Kind:
-    """Return the settings of a role from a file; raises `Wrong`."""
-    values = values_of(path)
-    if faults := faults_in(kind, values):
-        raise Wrong(f"{path}: {'; '.join(faults)}")
-    named = {name: located(path, values[name]) for name in kind.paths if values.get(name)}
-    return kind(**{name: it for name, it in {**values, **named}.items() if name != "role"})
+def placed(kind: type[Role], path: pathlib.Path, values: Mapping[str, Any]) -> dict[str, Any]:
+    """Return the values of a file, with its paths resolved."""
+    names = [it.name for it in dataclasses.fields(kind) if it.type == File and values.get(it.name)]
+    return {**values, **{name: located(path, values[name]) for name in names}}
 
 
 def write(kind: type[Role], path: pathlib.Path, values: Mapping[str, Any]) -> None:

@@ -9,8 +9,6 @@ import sqlite3
 import sys
 from typing import Callable, Optional, Sequence
 
-from .notify import extending
-
 ROOM = 1_048_576  # bytes that must be free before a disk that was full is tried again
 
 
@@ -37,8 +35,7 @@ class Database:
 
     def must_be_whole(self) -> None:
         """Raise `DatabaseError` if pages do not fit together. Reads all that are checked, so a start may take long."""
-        with extending():
-            found = {self.base.execute(f"PRAGMA quick_check({it})").fetchone() for it in self.checked}
+        found = {self.base.execute(f"PRAGMA quick_check({it})").fetchone() for it in self.checked}
         if found != {("ok",)}:
             raise sqlite3.DatabaseError("its pages do not fit together")
 

@@ -62,14 +62,14 @@ FIELDS: dict[str, tuple[Callable[[str], object], ...]] = {
 
 @dataclasses.dataclass
 class Entry:
-    """An entry: its place (`revision`) and text (`key`). `words` are the poster, kind and fields, and `values` are the
-    parsed fields; both are empty if the text is malformed."""
+    """An entry: its place and its text. `words` are the poster, kind and fields, and `values` are the parsed fields;
+    both are empty if the text is malformed."""
 
-    revision: int
-    key: str
+    place: int
+    text: str
 
     def __post_init__(self) -> None:
-        self.words, self.values = read(self.key)
+        self.words, self.values = read(self.text)
 
 
 def read(text: str) -> tuple[list[str], list[Any]]:

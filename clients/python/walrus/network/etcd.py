@@ -15,9 +15,9 @@ import aiohttp
 from .checkpoint import Mark, line_of
 from .entries import Chain
 
-FIRST, LAST, HEAD = "/walrus/000000000001", "/walrus/999999999999", "/walrus/head"
-MARK, PIECES = "/walrus/checkpoint", "/walrus/checkpoint/"
-DEFRAGMENTING, TURN = "/walrus/defragmenting", 600  # has the turn to defragment; seconds of a turn at most
+FIRST, LAST, HEAD = b"/walrus/000000000001", b"/walrus/999999999999", b"/walrus/head"
+MARK, PIECES = b"/walrus/checkpoint", b"/walrus/checkpoint/"
+DEFRAGMENTING, TURN = b"/walrus/defragmenting", 600  # has the turn to defragment; seconds of a turn at most
 PAGE, SILENCE, LONGEST_LINE = 16, 60.0, 2**20  # batches that are read at once; seconds; bytes
 WIDTHS = 64, 4_096, 262_144  # places among which a batch's key is looked for, as etcd sorts all keys in the range
 COMPACTED, DROPPED = 5_000, 500  # revisions between two compactions; keys that are dropped at once
@@ -34,27 +34,27 @@ class Gone(Exception):
     """The requested entries or pieces were dropped: a later checkpoint replaces them."""
 
 
-def coded(data: str) -> str:
-    return base64.b64encode(data.encode()).decode()
+def coded(data: bytes) -> str:
+    return base64.b64encode(data).decode()
 
 
-def decoded(pair: dict[str, Any], name: str = "value") -> str:
-    return base64.b64decode(pair.get(name, "")).decode()
+def decoded(pair: dict[str, Any], name: str = "value") -> bytes:
+    return base64.b64decode(pair.get(name, ""))
 
 
-def value_of(found: Optional[list[dict[str, Any]]]) -> str:
-    """Returns the value of the key that was asked for; an empty text if there is no such key."""
-    return decoded(found[0]) if found else ""
+def value_of(found: Optional[list[dict[str, Any]]]) -> bytes:
+    """Returns the value of the key that was asked for; nothing if there is no such key."""
+    return decoded(found[0]) if found else b""
 
 
-def key_of(place: int) -> str:
+def key_of(place: int) -> bytes:
     """Returns the key of the batch that begins with this place."""
-    return f"/walrus/{place:012d}"
+    return b"/walrus/%012d" % place
 
 
-def key_of_piece(place: int, number: int) -> str:
+def key_of_piece(place: int, number: int) -> bytes:
     """Returns the key of a piece of the checkpoint of this place."""
-    return f"{PIECES}{place:012d}/{number:06d}"
+    return PIECES + b"%012d/%06d" % (place, number)
 
 
 @dataclasses.dataclass(frozen=True)
@@ -86,12 +86,13 @@ class Batch:
         known = max(0, place - self.before.place)
         return Batch(self.before.behind(self.entries[:known]), self.entries[known:]) if known else self
 
-    def value(self) -> str:
-        return json.dumps({"before": self.before.digest.hex(), "entries": self.entries}, separators=(",", ":"))
+    def value(self) -> bytes:
+        told = {"before": self.before.digest.hex(), "entries": self.entries}
+        return json.dumps(told, separators=(",", ":")).encode()
 
     @classmethod
     def read(cls, pair: dict[str, Any]) -> "Batch":
-        value, place = json.loads(decoded(pair)), int(decoded(pair, "key").rpartition("/")[2])
+        value, place = json.loads(decoded(pair)), int(decoded(pair, "key").rpartition(b"/")[2])
         return cls(Chain(place - 1, bytes.fromhex(value["before"])), value["entries"])
 
 
@@ -125,14 +126,14 @@ class Etcd:
         except (aiohttp.ClientError, OSError, TimeoutError, ValueError) as fault:
             raise Failed(f"etcd at {self.url} does not answer: {fault or 'it is too slow'}") from fault
 
-    async def range(self, first: str, last: str = "", **words: Any) -> list[dict[str, Any]]:
+    async def range(self, first: bytes, last: bytes = b"", **words: Any) -> list[dict[str, Any]]:
         """Returns the pairs with keys from `first` to before `last`, or the pair of `first` if no `last` is given."""
         span = {"key": coded(first), **({"range_end": coded(last)} if last else {}), **words}
         return list((await self.call("kv/range", span)).get("kvs", []))
 
     async def replace(
-        self, key: str, old: str, puts: dict[str, str], *others: str, lease: str = "0"
-    ) -> tuple[str, list[dict[str, Any]]]:
+        self, key: bytes, old: bytes, puts: dict[bytes, bytes], *others: bytes, lease: str = "0"
+    ) -> tuple[bytes, list[dict[str, Any]]]:
         """Puts values if a key still has its old value, or does not exist if `old` is empty. Returns the key's value
         after that, and, if nothing was put, some pairs from each of the other keys on. What is put ends with its
         lease."""
@@ -149,8 +150,8 @@ class Etcd:
         found = [it["response_range"].get("kvs", []) for it in answer["responses"]]
         return value_of(found[0]), sum(found[1:], [])
 
-    async def head(self) -> str:
-        """Returns the value of the head key; an empty text before the ledger is created."""
+    async def head(self) -> bytes:
+        """Returns the value of the head key; nothing before the ledger is created."""
         return value_of(await self.range(HEAD))
 
     async def batches(self, after: int) -> list[Batch]:
@@ -167,7 +168,7 @@ class Etcd:
             raise Gone(f"the entries after place {after} are dropped")
         return batches
 
-    async def append(self, head: str, after: str, batch: Optional[Batch] = None) -> tuple[str, list[Batch]]:
+    async def append(self, head: bytes, after: bytes, batch: Optional[Batch] = None) -> tuple[bytes, list[Batch]]:
         """Puts a batch and the new head if the head is still `head`. Returns the head after that, and, if another
         recorder was first, the batches that begin where this one would have."""
         puts = {key_of(batch.before.place + 1): batch.value()} if batch else {}
@@ -182,21 +183,16 @@ class Etcd:
 
     async def put_mark(self, mark: Mark, before: Optional[Mark]) -> None:
         """Replaces a mark; does nothing if the mark in etcd is not `before`, where None means no mark."""
-        old, new = (json.dumps(it._asdict()) if it else "" for it in (before, mark))
+        old, new = (json.dumps(it._asdict()).encode() if it else b"" for it in (before, mark))
         await self.replace(MARK, old, {MARK: new})
 
     async def put_piece(self, place: int, number: int, piece: bytes) -> None:
         """Puts a compressed piece of a checkpoint unless it is there already, as another recorder may write a
         checkpoint of the same place. Raises `Failed` if that one differs."""
-        key, value = coded(key_of_piece(place, number)), base64.b64encode(piece).decode()
-        words: dict[str, Any] = {"compare": [{"key": key, "target": "CREATE", "create_revision": "0"}]}
-        words["success"] = [{"request_put": {"key": key, "value": value}}]
-        answer = await self.call("kv/txn", words | {"failure": [{"request_range": {"key": key}}]})
-        if answer.get("succeeded"):
-            return
-        found = base64.b64decode(answer["responses"][0]["response_range"]["kvs"][0]["value"])
-        with contextlib.suppress(zlib.error):
-            if zlib.decompress(found) == zlib.decompress(piece):  # another zlib may compress the same into other bytes
+        key = key_of_piece(place, number)
+        found, _ = await self.replace(key, b"", {key: piece})
+        with contextlib.suppress(zlib.error):  # another zlib may compress the same into other bytes
+            if found == piece or zlib.decompress(found) == zlib.decompress(piece):
                 return
         raise Failed("another recorder writes a different checkpoint of this place; it may be of another version")
 
@@ -204,13 +200,13 @@ class Etcd:
         """Returns a piece of a checkpoint, compressed; raises `Gone` if it was dropped."""
         if not (found := await self.range(key_of_piece(place, number))):
             raise Gone("a later checkpoint has replaced this one")
-        return base64.b64decode(found[0]["value"])
+        return decoded(found[0])
 
     async def drop(self, mark: Mark) -> None:
         """Drops the batches up to a checkpoint, and the checkpoints before it: some at a time, as others wait."""
         for first, last in ((FIRST, key_of(mark.place + 1)), (PIECES, key_of_piece(mark.place, 0))):
             while found := await self.range(first, last, limit=DROPPED, keys_only=True):
-                end = coded(decoded(found[-1], "key") + "\0")
+                end = coded(decoded(found[-1], "key") + b"\0")
                 answer = await self.call("kv/deleterange", {"key": found[0]["key"], "range_end": end})
                 self.revision = int(answer["header"]["revision"])
         await self.compact(0)
@@ -247,17 +243,17 @@ class Etcd:
         Above its quota etcd gives no turns: the member defragments without one, as nobody waits for it then."""
         try:
             lease = str((await self.call("lease/grant", {"TTL": str(TURN)}))["ID"])
-            holder, _ = await self.replace(DEFRAGMENTING, "", {DEFRAGMENTING: lease}, lease=lease)
+            holder, _ = await self.replace(DEFRAGMENTING, b"", {DEFRAGMENTING: lease.encode()}, lease=lease)
         except Failed as fault:
             if NO_SPACE not in str(fault):
                 raise
-            lease = holder = ""
-        if holder == lease:
+            lease, holder = "", b""
+        if holder.decode() == lease:
             await self.call("maintenance/defragment", {}, 60)
         if lease:
             await self.call("lease/revoke", {"ID": lease})
 
-    async def watch(self, hear: Callable[[str], None]) -> None:
+    async def watch(self, hear: Callable[[bytes], None]) -> None:
         """Calls `hear` with the head soon after each change. It is a hint: a recorder asks for the head anyway."""
         limit = aiohttp.ClientTimeout(total=None, sock_connect=5, sock_read=SILENCE)
         while True:

@@ -3,19 +3,21 @@ import argparse
 import dataclasses
 from typing import Any
 
+from .configuration import File
+
 
 @dataclasses.dataclass
 class Options:
     """What a gateway may use, and who may reach it and how. By default it stores only for its own machine."""
 
-    tokens: str = ""  # the file of tokens; if empty, FOLDER/tokens.json
-    used: str = ""  # the database of what tokens have used; if empty, one beside the tokens
+    tokens: File = ""  # the file of tokens; if empty, FOLDER/tokens.json
+    used: File = ""  # the database of what tokens have used; if empty, one beside the tokens
     names: list[str] = dataclasses.field(default_factory=list)  # names of the gateway, beside its addresses
     proxies: list[str] = dataclasses.field(default_factory=list)  # addresses whose X-Forwarded-For is trusted
-    tls_certificate: str = ""
-    tls_key: str = ""
+    tls_certificate: File = ""
+    tls_key: File = ""
     sites: str = ""  # the host under which each folder has a host of its own; none if empty
-    log: str = ""  # the file of the access log; - is standard output
+    log: File = ""  # the file of the access log; - is standard output
     requests: float = 1_000.0  # per second, of a token and of an address; unlimited if 0
     rate: float = 0.0  # bytes per second, of a token and of an address; unlimited if 0
     memory: int = 268_435_456  # bytes of memory for the whole gateway

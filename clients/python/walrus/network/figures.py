@@ -15,7 +15,7 @@ from ..envelopes import parts
 from ..frames import answer
 from ..port import Bounds, Connection, Port, Said
 
-from . import whole
+from . import certificates, whole
 from .peers import FIGURES, SCRUB
 from .times import Times
 
@@ -123,5 +123,6 @@ class NodePort(Port):
             if isinstance(it, (int, float))
         }
         gauges |= {"epoch": self.node.ledger.epoch, "ledger_away_seconds": self.node.silence()}
+        gauges |= {"certificate_days": certificates.days_left(self.node.certificate)}
         counters: dict[str, Any] = {"judged": self.node.judges.count, "request_bytes": self.moved}
         return metrics.told(counters, gauges, {"request_seconds": self.times})

@@ -162,11 +162,11 @@ class Recorders:
         async with session.get(f"{url}entries", params={"after": str(place)}, timeout=limit) as said:
             read = said.content.readline
             told = json.loads(await read())
-            if "tail" in told:  # the ledger is being restored: it gets what is kept of it here, or a part
+            if "tail" in told:  # restoring.py asks so for what is kept here, and gets it, or a part
                 entries = self.tail(place := told["tail"], 4 * MOST)
-                after = entries[0].revision - 1 if entries else place
+                after = entries[0].place - 1 if entries else place
                 body = {"after": after, "digest": self.digest(after)}
-                await self.ask("tail", body | {"entries": fitting((it.key for it in entries), MOST_BYTES)}, at)
+                await self.ask("tail", body | {"entries": fitting((it.text for it in entries), MOST_BYTES)}, at)
                 raise Unreachable(told["error"])
             if said.status != 200:
                 kind = {403: Refused, 409: Parted}.get(said.status, ConnectionError)

@@ -13,6 +13,7 @@ from typing import Any, Awaitable, Callable, Optional, Union
 from aiohttp import hdrs, web
 from .. import client
 
+from . import certificates
 from .access import CommonLog, log_to
 from .announcing import Announcer
 from .client import Access, Network
@@ -82,6 +83,7 @@ class Gateway(Server):
     def __init__(self, network: Network, folder: pathlib.Path, options: Optional[Options] = None):
         super().__init__()
         self.network = network
+        self.own = certificates.read(network.certificate)  # towards recorders
         options = self.options = options or Options()
         tokens, default, used = places(folder, options.tokens, options.used)
         self.guard = Guard(options, Tokens(tokens, default, used))
@@ -203,10 +205,11 @@ class Gateway(Server):
         cache = self.reader.cache
         counts: dict[str, Any] = {"http_requests": self.requests, "http_bytes": self.reader.bytes}
         counts |= {"cache_hits": cache.hits, "blobs_read": cache.reads}
+        sizes = {"cache_bytes": cache.size, "certificate_days": certificates.days_left(self.own)}
         found = self.announcer.counts
         counts |= {"bad_encodings": {f'came="{it}"': found[it] for it in ("declared", "not declared")}}
         try:
-            told = self.watch.metrics(counts, {"cache_bytes": cache.size}, {"http_seconds": self.times})
+            told = self.watch.metrics(counts, sizes, {"http_seconds": self.times})
         except ModuleNotFoundError as fault:
             raise Problem(501, f"{fault.name} is not here: install python3-prometheus-client") from None
         return await send_text(request, told, FRESH | HEADERS)
@@ -251,9 +254,11 @@ async def serve(
             scheme = "https" if gateway.certificate else "http"
             ready(f"the gateway is at {scheme}://{host}:{port}/\nready")
             waiting = asyncio.create_task(told.wait())
+            watching = asyncio.create_task(certificates.watch(network.user, gateway.own))
             tasks: "list[asyncio.Future[Any]]" = [waiting, gateway.watch.task, *filter(None, [network.task])]
             await asyncio.wait(tasks, return_when=asyncio.FIRST_COMPLETED)
             waiting.cancel()
+            watching.cancel()
             if network.lost:
                 raise Unreachable(f"the gateway must stop, as it cannot follow the ledger: {network.lost}")
             if gateway.watch.task.done() and (fault := gateway.watch.task.exception()):

@@ -27,7 +27,7 @@ async def survey(node: "Node") -> tuple[dict[int, dict[bytes, bool]], list[bytes
     ledger, lacks, unsaid = node.ledger, dict[int, dict[bytes, bool]](), list[bytes]()
     for epoch, side in list(node.sides.items()):
         ready = epoch == ledger.epoch and not ledger.moving and set(side) <= ledger.ready
-        after = b""
+        after, own = b"", sum(1 << shard for shard in side)
         while side and (page := ledger.blobs.page(after)):
             first, after = page[0][0], page[-1][0]
             held = [await node.store.settled(shard.holding, epoch, first, after) for shard in side.values()]
@@ -35,7 +35,7 @@ async def survey(node: "Node") -> tuple[dict[int, dict[bytes, bool]], list[bytes
                 if blob.until <= epoch:
                     continue
                 certified = (blob.quorum(ACK, ledger.quorum) or (None,))[0]
-                said = any(side.keys() & blob.votes[kind].get(epoch, set()) for kind in (ACK, ATTEST))
+                said = any(own & blob.votes[kind].get(epoch, 0) for kind in (ACK, ATTEST))
                 if all(identifier in it for it in held):
                     if epoch == ledger.writing_epoch and certified in (None, epoch) and not said and len(unsaid) < MANY:
                         unsaid.append(identifier)

@@ -30,7 +30,7 @@ class Nodes(NamedTuple):
 def shards_of(ledger: Ledger, identifier: bytes, nodes: Nodes, findings: Iterable[dict[str, Any]]) -> list[str]:
     """Returns the state of each shard in the committee that answers for a blob; each node's last challenge counts."""
     home, found = ledger.home_epoch(identifier), ledger.certificate(identifier)
-    acks = ledger.blobs[identifier].votes[ACK].get(home, frozenset())
+    acks = ledger.blobs[identifier].votes[ACK].get(home, 0)
     name, states = identifier.hex(), list[str]()
     shown: dict[str, bool] = {it["node"]: it["holds"] for it in reversed([*findings]) if it["blob"] == name}
     for number, node in enumerate(ledger.owners(home)):
@@ -39,7 +39,7 @@ def shards_of(ledger: Ledger, identifier: bytes, nodes: Nodes, findings: Iterabl
             states.append(SILENT)
         elif holds is False:
             states.append(LACKING)
-        elif holds or number in acks:
+        elif holds or acks >> number & 1:
             states.append(HELD)
         else:
             states.append(CARRIED if found and found[0] < home else LACKING)

@@ -1,4 +1,5 @@
-"""Checkpoints: after an epoch change a recorder writes the state of its ledger to etcd, and drops the entries before.
+"""Checkpoints: after an epoch change, or once etcd is nearly full, a recorder writes the state of its ledger to etcd,
+and drops the entries before.
 
 Several recorders may do so at once, as all that have the same ledger write the same."""
 import asyncio
@@ -17,6 +18,7 @@ from .recorder import Recorder
 PAUSE, IDLE = 5.0, 30.0  # seconds between two looks; seconds without a new entry until etcd may be defragmented
 TRIES = 10  # to put a piece of a checkpoint
 FULL = 0.75  # of etcd's quota: the rest has room for what comes while entries are dropped, and for the next checkpoint
+LEAST = 100_000  # entries after a checkpoint, and a quarter of the live blobs, from which on another one frees much
 SLACK = 67_108_864  # free bytes that etcd may always have in its file
 
 
@@ -40,11 +42,13 @@ class Keeper:
                 self.said = str(fault)
 
     async def look(self) -> None:
-        """Takes the next step: marks a checkpoint as dropped, drops what is before it, or writes the next one; and
-        defragments etcd when it is idle. While a checkpoint waits for nodes no other one is written: the wait would
-        begin again at each epoch change, and would never end if epochs are shorter than `patience`."""
+        """Takes the next step for the checkpoint in etcd, and defragments etcd when it is idle. A checkpoint:
+
+        - waits for nodes, and is marked as dropped once that is over. Meanwhile no other one is written: the wait would
+          begin again at each epoch change, and would never end if epochs are shorter than `patience`;
+        - is marked, and each recorder drops what is before it;
+        - is the last one until the next one is due, and written."""
         recorder, mark = self.recorder, await self.etcd.mark()
-        now = time.monotonic()
         if mark and not mark.dropped:
             if self.is_over(mark) or await self.is_full():
                 await self.etcd.put_mark(mark._replace(dropped=True), mark)
@@ -52,12 +56,20 @@ class Keeper:
             await self.etcd.drop(mark)  # each recorder does so, as the one that set the mark may have ended since
             await recorder.state.forget_places(mark.place)
             self.dropped = mark.place
-        elif recorder.ledger.epoch > (mark.epoch if mark else 0) and now > recorder.turned and recorder.state.settle():
+        elif await self.is_due(mark) and recorder.state.settle():
             await self.write(mark)
-        if now > recorder.appended + IDLE:
+        if time.monotonic() > recorder.appended + IDLE:
             size, used = await self.etcd.sizes()
             if size - used > max(SLACK, used):
                 await self.etcd.defragment()
+
+    async def is_due(self, mark: Optional[Mark]) -> bool:
+        """Whether the next checkpoint is to be written: the epoch has none yet, or so much was appended since its last
+        one that etcd is nearly full. Otherwise nothing could be appended any more, not even what ends the epoch."""
+        recorder, place, epoch = self.recorder, mark.place if mark else 0, mark.epoch if mark else 0
+        if recorder.ledger.epoch > epoch and time.monotonic() > recorder.turned:
+            return True
+        return recorder.chain.place - place > LEAST + len(recorder.ledger.blobs) // 4 and await self.is_full()
 
     def is_over(self, mark: Mark) -> bool:
         """Whether all nodes of both committees have posted that they are past a checkpoint's epoch, which this recorder

@@ -2,14 +2,15 @@
 
 Places of entries are consecutive and begin with 1. An entry that names another epoch than the one at its place is void:
 an epoch change came first, and its poster may post it anew. Entries beyond a poster's share are void too, and so are
-entries posted under a name that the operator has expelled."""
+entries posted under a name that the operator has expelled. An entry *counts* if it is not void, and its outcome is not
+in `REFUSED`."""
 import collections
 import copy
 import dataclasses
 import functools
 from typing import Collection, Optional
 
-from .blobs import Blob, Blobs, Over, Owed
+from .blobs import Blob, Blobs, Over, Owed, shards_in
 from .entries import ACK, ADDRESS, ATTEST, LAST_EPOCH, LAST_UNTIL, OPERATOR, PAST, REGISTER, Entry, entry_key
 
 __all__ = ["ACK", "ADDRESS", "ATTEST", "LAST_UNTIL", "OPERATOR", "PAST", "REGISTER", "Entry", "Ledger", "entry_key"]
@@ -34,9 +35,9 @@ def refusal(word: str) -> str:
 
 
 @functools.lru_cache(4_096)
-def owned(owners: tuple[str, ...], node: str) -> frozenset[int]:
-    """Returns the shards of a node in a committee."""
-    return frozenset(shard for shard, owner in enumerate(owners) if owner == node)
+def owned(owners: tuple[str, ...], node: str) -> int:
+    """Returns the shards of a node in a committee, as the bits of a number."""
+    return sum(1 << shard for shard, owner in enumerate(owners) if owner == node)
 
 
 class Void(Exception):
@@ -85,7 +86,7 @@ class Ledger:
 
     def shards_of(self, node: str, epoch: Optional[int] = None) -> list[int]:
         """Returns the shards of a node in the committee of an epoch, or in the writing committee if none is named."""
-        return sorted(owned(self.writing if epoch is None else self.owners(epoch), node))
+        return shards_in(owned(self.writing if epoch is None else self.owners(epoch), node))
 
     def certificate(self, identifier: bytes) -> Optional[tuple[int, int]]:
         blob = self.blobs.get(identifier)
@@ -104,7 +105,7 @@ class Ledger:
     def home_epoch(self, identifier: bytes) -> int:
         """Returns the epoch of the committee that answers for a blob."""
         blob = self.blobs.get(identifier)
-        moved = self.moving and blob and len(blob.votes[ACK].get(self.writing_epoch, ())) >= self.quorum
+        moved = self.moving and blob and blob.votes[ACK].get(self.writing_epoch, 0).bit_count() >= self.quorum
         return self.epoch + bool(moved)
 
     def must_hold(self) -> Collection[bytes] | Owed:
@@ -115,7 +116,7 @@ class Ledger:
     def voted(self, kind: str, identifier: bytes, node: str) -> bool:
         """Whether all shards of a node have acknowledged or attested (`kind`) a blob in the writing epoch."""
         blob, shards = self.blobs.get(identifier), owned(self.writing, node)
-        return bool(blob and shards and shards <= blob.votes[kind].get(self.writing_epoch, frozenset()))
+        return bool(blob and shards and not shards & ~blob.votes[kind].get(self.writing_epoch, 0))
 
     def share(self, poster: str) -> int:
         """Returns how many registrations and addresses of a poster count in an epoch, with its live older blobs."""
@@ -140,12 +141,15 @@ class Ledger:
             word = self.enter(entry)
         except Void:
             return None
-        self.revision = entry.revision
+        self.revision = entry.place
         return word
 
     def refused(self, entry: Entry) -> str:
         """Applies an entry and returns why it changes nothing, or an empty text if it counts. Recorders do not append
-        entries that change nothing, so these take nothing of their poster's share."""
+        entries that change nothing, so these take nothing of their poster's share; nor acknowledgements that no correct
+        node posts, although they would count."""
+        if entry.words[1:2] == [ACK] and self.certified_before(entry.values[1], entry.values[0]):
+            return "the blob was certified in an earlier epoch"
         try:
             why = refusal(self.enter(entry))
         except Void as void:
@@ -240,10 +244,10 @@ class Ledger:
             return "unregistered"
         if blob.until <= epoch:
             return "expires"
-        if own <= blob.votes[kind].get(epoch, frozenset()):
+        if not own & ~blob.votes[kind].get(epoch, 0):
             return "already"
         self.blobs[identifier] = blob = blob.voted(kind, epoch, own, self.quorum)
-        count = len(blob.votes[kind][epoch])
+        count = blob.votes[kind][epoch].bit_count()
         return f"{('certified' if kind == ACK else 'invalid') if count >= self.quorum else 'counted'} {count}"
 
     def _begin(self, epoch: int, faults: int, owners: tuple[str, ...]) -> str:
@@ -265,7 +269,7 @@ class Ledger:
         return f"epoch {epoch}"
 
     def _ready(self, poster: str) -> str:
-        own = owned(self.next, poster)
+        own = {*shards_in(owned(self.next, poster))}
         if own <= self.ready:
             return "already"
         self.ready |= own

@@ -37,7 +37,7 @@ def free_port() -> int:
             return int(found.getsockname()[1])
 
 
-async def make_certificate(folder: pathlib.Path, path: str, by: str = AUTHORITY) -> None:
+def make_certificate(folder: pathlib.Path, path: str, by: str = AUTHORITY) -> None:
     """Makes a key and a certificate for a name on this machine, signed by an authority."""
     name = pathlib.Path(path).name
     certificates.make(folder / path, folder / by, name, [name, HOST])
@@ -84,7 +84,7 @@ class Local:
         for name in (AUTHORITY, ETCD_AUTHORITY):
             certificates.make_authority(self.folder / name)
         for name in (OPERATOR, "publisher"):
-            await make_certificate(self.folder, f"users/{name}")
+            make_certificate(self.folder, f"users/{name}")
         urls = {name: [f"https://{HOST}:{free_port()}" for _ in range(2)] for name in self.members}
         places = [Place(name, HOST, free_port()) for name in self.recorders]
         told = {"program": self.program, "recorders": [it.address for it in places], "etcd": urls}
@@ -119,9 +119,10 @@ class Local:
         await all_of(map(self.start_recorder, self.recorders))
 
     async def add_node(self, name: str) -> None:
-        """Makes a node's certificate and settings, unless it has settings."""
+        """Makes a node's certificate and settings, unless it has settings. Raises `Unfounded` if no node can have this
+        name, such as one whose files are the ledger's or an authority's."""
         if not (self.folder / f"{name}.toml").exists():
-            self.machine().node(Place(name, HOST, free_port()), **self.options)
+            self.machine().node(Place.read(f"{name}={HOST}:{free_port()}"), **self.options)
 
     async def start_recorder(self, name: str) -> None:
         await self.start(name, [sys.executable, "-m", "walrus.network", "recorder"])

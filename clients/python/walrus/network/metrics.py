@@ -22,6 +22,7 @@ MEANT = {
     "blobs_read": "Blobs that were read from the network",
     "cache_bytes": "Bytes that the cache takes",
     "cache_hits": "Reads that found a blob in the cache, or on its way there",
+    "certificate_days": "Days until the certificate that was loaded expires",
     "challenges": "Challenges, by finding",
     "epoch": "The epoch",
     "http_bytes": "Bytes of files, in and out",

@@ -15,7 +15,7 @@ from ..envelopes import parts
 from ..frames import answer, code_of, joined
 from ..port import PIECE, Bounds, Said
 
-from . import handover
+from . import certificates, handover
 from .figures import NodePort
 from .follower import Recorders, Refused, Unreachable, View
 from .groups import first_of
@@ -53,6 +53,7 @@ class Node(View):
         recorders = Recorders(settings.recorders, settings.authority, settings.certificate, settings.key)
         path = self.store.path.with_suffix(".ledger")
         super().__init__(recorders, State.open(str(path), LAST_EPOCH if settings.recorded else TAIL, PAGES))
+        self.certificate = certificates.read(pathlib.Path(settings.certificate))
         self.peers, self.sides = Peers(self.ledger, authority, 20), dict[int, dict[int, Shard]]()
         self.failed: "asyncio.Future[None]" = asyncio.get_running_loop().create_future()
         self.port = NodePort(self, Bounds(settings.connections, REQUEST, IDLE, settings.kept))
@@ -75,7 +76,8 @@ class Node(View):
         port = await self.port.listen(self.settings.host, self.settings.port, context)
         told = handover.tell_address(self, *self.settings.reached(port)), handover.tell_past(self)
         owed = handover.hand_over(self), handover.heal(self), self.mend()
-        for work in (*owed, self.scrub.run(), self.scrub.sweep_always(), *told):
+        watching = certificates.watch(self.name, self.certificate)
+        for work in (*owed, watching, self.scrub.run(), self.scrub.sweep_always(), *told):
             self.tasks.append(asyncio.create_task(self.watched(work)))
         if self.settings.metrics:
             from . import metrics  # here, so that only nodes that need it load it
@@ -230,7 +232,7 @@ class Node(View):
                 pass
         if not voted():
             return [answer(DECLINED)]  # the blob has expired, or the epoch has changed meanwhile
-        count = len(ledger.blobs[identifier].votes[kind][ledger.writing_epoch])
+        count = ledger.blobs[identifier].votes[kind][ledger.writing_epoch].bit_count()
         return [answer(COUNTED + (count >= ledger.quorum), count)]
 
     async def close(self) -> None:

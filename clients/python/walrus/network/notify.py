@@ -4,10 +4,7 @@ import contextlib
 import functools
 import os
 import socket
-import threading
-from typing import Iterator
 
-EACH, MORE = 20.0, 300  # seconds: between requests for more time for a start; the time that each asks for
 SOON = 1.0  # seconds until READY is sent again to a manager that accepted nothing
 
 
@@ -39,26 +36,6 @@ def beat() -> None:
     if microseconds:
         alive()
         asyncio.get_running_loop().call_later(microseconds / 3e6, beat)
-
-
-@contextlib.contextmanager
-def extending() -> Iterator[None]:
-    """Extend the start timeout of the unit while the body runs. A thread asks for that, as the body blocks the event
-    loop."""
-    over = threading.Event()
-
-    def extend() -> None:
-        while not over.wait(EACH):
-            with contextlib.suppress(OSError):
-                notify(f"EXTEND_TIMEOUT_USEC={MORE * 1_000_000}")
-
-    thread = threading.Thread(target=extend, name="extend", daemon=True)
-    thread.start()
-    try:
-        yield
-    finally:
-        over.set()
-        thread.join()
 
 
 def tell_ready() -> None:

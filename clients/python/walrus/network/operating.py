@@ -19,6 +19,7 @@ from .ledger import Ledger
 from .peers import SCRUB, Seat
 from .transfers import Failure
 
+SHORT = 60  # minutes of an epoch below which a plan may be a slip, such as 1m for a month
 NAMED = 20  # blobs ending with an epoch that are printed at most, before the number of the others
 SNAPSHOT = "; take a snapshot of the ledger before you remove nodes without shards (network/OPERATING.md)"
 
@@ -161,12 +162,12 @@ def tell_of(network: Network, owners: list[str], ended: list[str], reordered: bo
 
 
 async def begin(words: argparse.Namespace) -> int:
-    """Begins the first epoch of a network, with the nodes in its plan; does nothing if it has begun. The plan may have
-    other nodes by then, as `add` and `remove` change it."""
+    """Begins the first epoch of a network, with the nodes in its plan; those that were added since are spare ones. Does
+    nothing if it has begun."""
     plan = json.loads((words.folder / "network.json").read_text())
     if "nodes" not in plan:
         raise Failure(f"{words.folder} does not say with which nodes the network was founded", 2)
-    owners = [name for name, (_, _, shards) in plan["nodes"].items() for _ in range(shards)]
+    owners = [name for name, (_, _, shards) in plan["nodes"].items() for _ in range(shards)][: 3 * plan["faults"] + 1]
     async with Network(words.folder, OPERATOR) as network:
         if network.ledger.now:
             return has_begun(network.ledger, 0, list(network.ledger.now), words.json)
@@ -191,16 +192,29 @@ async def post(words: argparse.Namespace) -> int:
         if words.command == "expel":
             if not words.json:
                 print(known_of(network.ledger, words.name), flush=True)
+            if words.yes and network.ledger.moving and (lost := lost_with(network.ledger, words.name)):
+                raise Failure(f"{words.name} is not expelled: {lost}; without --yes you are asked", 1)
             must_agree(f"expel {words.name} for ever?", words, f"{words.name} is not expelled", "expels it")
         place = await network.recorders.post(entry_key(OPERATOR, words.command, *fields))
     print(json.dumps({"name": words.name, "place": place}) if words.json else f"{text}, from place {place} on")
     return 0
 
 
+def lost_with(ledger: Ledger, name: str) -> str:
+    """Returns what is lost if a node is expelled after others; an empty text if at most f shards are."""
+    gone = {*ledger.expelled, name}
+    lost = max(sum(it in gone for it in owners) for owners in (ledger.now, ledger.next))
+    if lost <= ledger.faults or name not in ledger.nodes:
+        return ""
+    text = "this handover may never end" if ledger.moving else "nothing is stored before a handover"
+    return f"in all {lost} shards of expelled nodes, so {text}"
+
+
 def known_of(ledger: Ledger, name: str) -> str:
     """Returns what the ledger knows of a name, so that a misspelt one is noticed before it is expelled."""
     shards, live = max(ledger.now.count(name), ledger.next.count(name)), ledger.blobs.posters()[name]
     known = [f"{shards} shards, and {ledger.faults} may be lost"] if shards else []
+    known += filter(None, [lost_with(ledger, name)])
     known += [f"{live} live blobs"] if live else []
     known += [f"a share of {ledger.shares[name]}"] if name in ledger.shares else []
     known += [f"the address {ledger.addresses[name][0]}"] if name in ledger.addresses else []
@@ -208,15 +222,21 @@ def known_of(ledger: Ledger, name: str) -> str:
 
 
 async def plan(words: argparse.Namespace) -> int:
-    """Posts the planned length of epochs, from the present one on, or that there is no plan."""
+    """Posts the planned length of epochs, from the present one on, or that there is no plan. Asks first if by the plan
+    the present epoch is over or has not begun, or if epochs are very short: a timer might begin one in each run."""
     minutes = 0 if words.length == "off" else seconds_of(words.length) // 60
     since = datetime.datetime.fromisoformat(words.since) if words.since else datetime.datetime.now()
+    begins, late = since.astimezone(datetime.timezone.utc).strftime("%Y-%m-%dT%H:%MZ"), time.time() - since.timestamp()
     async with Network(words.folder, OPERATOR) as network:
         epoch = network.ledger.epoch
+        told = f"epoch {epoch} counts from {begins}, and each has {words.length} ({minutes:,} minutes)"
+        if minutes and (minutes < SHORT or not 0 <= late < 60 * minutes):
+            if not words.json:
+                print(f"{told}: so epoch {epoch + late // 60 // minutes:.0f} is due now", flush=True)
+            must_agree("post this plan?", words, "no plan was posted", "posts it")
         fields = [epoch, int(since.timestamp()) // 60, minutes] if minutes else [0, 0, 0]
         place = await network.recorders.post(entry_key(OPERATOR, "calendar", *fields))
-    begins = since.astimezone(datetime.timezone.utc).strftime("%Y-%m-%dT%H:%MZ")
-    text = f"epoch {epoch} counts from {begins}, and each has {words.length}" if minutes else "there is no plan"
+    text = told if minutes else "there is no plan"
     print(json.dumps({"calendar": fields, "place": place}) if words.json else f"{text}, from place {place} on")
     return 0
 

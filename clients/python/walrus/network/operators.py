@@ -31,14 +31,14 @@ def add_words(add: Add) -> None:
     port = {"host": ("127.0.0.1", "the gateway's address"), "port": (GATEWAY_PORT, "the gateway's port")}
     hands = {"seconds": (600.0, "how long to wait until the epoch has begun"), "yes": (False, "begin without asking")}
     hands |= {"force": (False, "begin even if nodes of up to f shards do not answer")}
-    sure = {"yes": (False, "expel without asking")}
+    sure = {"yes": (False, "do it without asking")}
     text = "begin an epoch of NODE or NODE*SHARDS, or as now"
     sub = add("handover", text, "folder", "owners*", **hands, **heavy, **plain)
     text = "begin only this epoch, and do nothing if it has begun; by default, begin the next one"
     sub.add_argument("--epoch", type=int, help=text)
     add("begin", "begin the first epoch of a network that was founded", "folder", **plain)
     since = {"since": ("", "when this epoch began, such as 2026-11-29T12:00; now, if it is left out")}
-    add("calendar", "plan how long an epoch is, such as 14d, or off", "folder", "length", **since, **plain)
+    add("calendar", "plan how long an epoch is, such as 14d, or off", "folder", "length", **since, **sure, **plain)
     sub = add("share", "set how many live blobs a name may have", "folder", "name", **plain)
     sub.add_argument("--blobs", type=int, required=True, help="registrations in an epoch, with live blobs from before")
     add("expel", "make everything void that a name posts from now on, for ever", "folder", "name", **sure, **plain)

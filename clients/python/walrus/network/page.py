@@ -12,6 +12,7 @@ from .. import audit, client
 from ..shards import Asked
 
 from . import health
+from .blobs import shards_in
 from .client import Network
 from .dates import calendar_of, date_of
 from .exposure import Options
@@ -189,8 +190,8 @@ class Watch:
             raise Problem(404, NO_BLOB)
         epoch = found[0] if found else ledger.writing_epoch
         owners = {ledger.epoch: ledger.now, ledger.writing_epoch: ledger.writing}
-        acks = blob.votes[ACK].get(epoch, frozenset())
-        attests = blob.votes[ATTEST].get(ledger.writing_epoch, frozenset())
+        acks = {*shards_in(blob.votes[ACK].get(epoch, 0))}
+        attests = shards_in(blob.votes[ATTEST].get(ledger.writing_epoch, 0))
 
         def names(shards: Iterable[int], of: int) -> list[str]:
             known = owners.get(of, ())

@@ -84,7 +84,7 @@ class Recorder:
         finally:
             watching.cancel()
 
-    def hear(self, head: str) -> None:
+    def hear(self, head: bytes) -> None:
         """Wakes `run` if this head is beyond what this recorder has read or is appending: another one moved it."""
         if json.loads(head)["place"] > max(self.own, self.chain.place):
             self.bell.set()
@@ -100,9 +100,9 @@ class Recorder:
         self.bell.set()
         return asyncio.gather(*taken)
 
-    def head(self, chain: Chain) -> str:
+    def head(self, chain: Chain) -> bytes:
         """Returns the value that the head in etcd has if the ledger ends with this chain."""
-        return json.dumps({"ledger": self.state.identity, "place": chain.place, "digest": chain.digest.hex()})
+        return json.dumps({"ledger": self.state.identity, "place": chain.place, "digest": chain.digest.hex()}).encode()
 
     async def catch_up(self) -> None:
         """Reads what other recorders have appended, until there is nothing new."""
@@ -113,15 +113,15 @@ class Recorder:
         """Appends the waiting entries that count as one batch and answers them, unless another recorder was first."""
         answers, batch = self.judge()
         try:
-            stood = await self.step(batch)
+            ended_here = await self.step(batch)
         except Failed:
             if batch:
                 await self.step()  # etcd may be full, and still answers reads
             raise
-        for taken, answer in answers.items() if stood else ():  # otherwise they were judged by an outdated ledger
+        for taken, answer in answers.items() if ended_here else ():  # otherwise they were judged by an outdated ledger
             if not taken.done():
                 taken.set_result(answer)
-        if not stood or not all(it.done() for it in self.waiting):
+        if not ended_here or not all(it.done() for it in self.waiting):
             self.bell.set()
 
     async def step(self, batch: Optional[Batch] = None) -> bool:
@@ -131,28 +131,28 @@ class Recorder:
         begun, known = time.monotonic(), self.head(self.chain)
         wanted, self.own = (self.head(batch.after), batch.last) if batch else (known, 0)
         head, others = await self.etcd.append(known, wanted, batch) if batch else (await self.etcd.head(), [])
-        if (stood := head == wanted) and batch:
+        if (ended_here := head == wanted) and batch:
             self.enter(batch, own=True)
-        elif stood and not self.state.whole:
+        elif ended_here and not self.state.whole:
             self.state.save(self.chain)
-        if stood or await self.read(head, others):
+        if ended_here or await self.read(head, others):
             self.seen = begun
-        return stood
+        return ended_here
 
-    async def read(self, head: str, others: list[Batch]) -> bool:
+    async def read(self, head: bytes, others: list[Batch]) -> bool:
         """Reads batches up to a head, or some; returns whether that was all. Creates a ledger if there is none."""
         if not head:
             if self.chain.place:  # this recorder must not found another one in its place
                 raise Broken(f"etcd has no ledger any more, of which this recorder has read {self.chain.place} entries")
             birth = secrets.token_hex(32)
-            head, _ = await self.etcd.append("", json.dumps({"ledger": birth, "place": 0, "digest": birth}))
+            head, _ = await self.etcd.append(b"", json.dumps({"ledger": birth, "place": 0, "digest": birth}).encode())
         told = json.loads(head)
         if not self.chain.place:
             self.state.identity, self.state.chain = told["ledger"], Chain(0, bytes.fromhex(told["ledger"]))
         if told["ledger"] != self.state.identity or told["place"] < self.chain.place:
-            raise Broken(f"etcd has another ledger than before, or an older one: {head}")
+            raise Broken(f"etcd has another ledger than before, or an older one: {head.decode()}")
         if told["place"] == self.chain.place and told["digest"] != self.chain.digest.hex():
-            raise Broken(f"the batches in etcd do not have the digest that its head has: {head}")
+            raise Broken(f"the batches in etcd do not have the digest that its head has: {head.decode()}")
         try:
             if told["place"] > self.chain.place and not others:
                 others = await self.etcd.batches(self.chain.place)
@@ -218,7 +218,7 @@ class Recorder:
             elif reason := fork.refused(entry):
                 answers[taken] = Refused(reason)
             else:
-                answers[taken] = places[text] = entry.revision
+                answers[taken] = places[text] = entry.place
                 if fork.epoch != self.ledger.epoch:
                     break  # the copy is good up to an epoch change only
         return answers, Batch(self.chain, [*places]) if places else None

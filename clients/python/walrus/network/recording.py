@@ -4,13 +4,15 @@ import base64
 import collections
 import contextlib
 import json
+import pathlib
 import sqlite3
 import ssl
 import sys
-from typing import Any, Awaitable, Callable, Optional, Union
+from typing import Any, AsyncIterator, Awaitable, Callable, Optional, Union
 
 from aiohttp import web
 
+from . import certificates
 from .connections import Named, Server
 from .checkpoint import Mark, line_of, parted
 from .entries import number
@@ -86,18 +88,14 @@ class Service(Server):
     async def post(self, request: web.Request) -> web.Response:
         """Reads entries, and answers once the ledger has them. Bodies of one name are checked one after another, and
         after each the name waits for as long as the check took, so others have at least half of the time."""
-        name, turn, loop = request["name"], self.turns[request["name"]], asyncio.get_running_loop()
+        name = request["name"]
         try:
             async with asyncio.timeout(REQUEST):
                 body = await request.read()
         except (TimeoutError, OSError, ValueError, web.PayloadAccessError):
             body = b""
-        await turn.acquire()
-        begun = loop.time()
-        try:
+        async with held_twice(self.turns[name]):
             taken = self.take(name, body)
-        finally:
-            loop.call_later(loop.time() - begun, turn.release)
         if isinstance(taken, web.Response):
             return taken
         try:
@@ -191,6 +189,18 @@ class Service(Server):
         return web.json_response(told)
 
 
+@contextlib.asynccontextmanager
+async def held_twice(lock: asyncio.Lock) -> AsyncIterator[None]:
+    """Holds a lock during the block, and after it for as long as the block took."""
+    loop = asyncio.get_running_loop()
+    await lock.acquire()
+    begun = loop.time()
+    try:
+        yield
+    finally:
+        loop.call_later(loop.time() - begun, lock.release)
+
+
 def wrong(status: int, text: str) -> web.Response:
     return web.json_response({"error": text}, status=status)
 
@@ -208,7 +218,9 @@ async def serve(settings: RecorderSettings) -> int:
         return 1
     recorder = Recorder(etcd_of(settings), state)
     service, keeper = Service(recorder, settings), Keeper(recorder, settings.patience)
-    tasks = [asyncio.create_task(it) for it in (recorder.run(), keeper.run(), ending().wait())]
+    loaded = [certificates.read(pathlib.Path(it)) for it in (settings.certificate, settings.etcd_certificate)]
+    watching = [certificates.watch(settings.name, it) for it in loaded]
+    tasks = [asyncio.create_task(it) for it in (recorder.run(), keeper.run(), ending().wait(), *watching)]
     try:
         ready(f"{settings.name} {settings.host}:{await service.listen()}")
         done, _ = await asyncio.wait(tasks, return_when=asyncio.FIRST_COMPLETED)

@@ -1,25 +1,23 @@
 """The settings with which a node, a recorder and a gateway start."""
 import dataclasses
-import pathlib
 from typing import ClassVar
 
-from .configuration import settings_of
+from .configuration import File, Role
 from .exposure import Options
 
 
 @dataclasses.dataclass
-class Settings:
+class Settings(Role):
     """The settings of a node, read from a file with these names; paths are relative to the file."""
 
     role: ClassVar[str] = "node"
-    paths: ClassVar[tuple[str, ...]] = ("program", "database", "authority", "certificate", "key")
     name: str
-    program: str
-    database: str
+    program: File
+    database: File
     recorders: list[str]  # HOST:PORT of each recorder of the ledger
-    authority: str
-    certificate: str
-    key: str
+    authority: File
+    certificate: File
+    key: File
     host: str = "127.0.0.1"
     port: int = 0
     announced: str = ""  # HOST:PORT where others reach the node; if empty, host and port
@@ -33,10 +31,6 @@ class Settings:
     metrics: str = ""  # where Prometheus reads metrics: PORT on loopback alone, or HOST:PORT
     recorded: bool = False  # keep all requests and replies, for network/trace
 
-    @classmethod
-    def read(cls, path: pathlib.Path) -> "Settings":
-        return settings_of(cls, path)
-
     def reached(self, port: int) -> tuple[str, str]:
         """Return the host and port to post to the ledger if the node listens on `port`; an IPv6 address has no brackets
         there."""
@@ -45,64 +39,35 @@ class Settings:
 
 
 @dataclasses.dataclass
-class RecorderSettings:
+class RecorderSettings(Role):
     """The settings of a recorder; paths are relative to their file."""
 
     role: ClassVar[str] = "recorder"
-    paths: ClassVar[tuple[str, ...]] = (
-        "etcd_authority",
-        "etcd_certificate",
-        "etcd_key",
-        "authority",
-        "certificate",
-        "key",
-        "state",
-    )
     name: str
     etcd: str
-    etcd_authority: str
-    etcd_certificate: str
-    etcd_key: str
-    authority: str
-    certificate: str
-    key: str
-    state: str  # a file with the ledger as it was read; it may be removed while the recorder does not run
+    etcd_authority: File
+    etcd_certificate: File
+    etcd_key: File
+    authority: File
+    certificate: File
+    key: File
+    state: File  # a file with the ledger as it was read; it may be removed while the recorder does not run
     host: str = "127.0.0.1"
     port: int = 0
     patience: float = 604_800.0  # seconds for which entries of past epochs are kept for nodes that are away
 
-    @classmethod
-    def read(cls, path: pathlib.Path) -> "RecorderSettings":
-        return settings_of(cls, path)
-
 
 @dataclasses.dataclass(kw_only=True)
-class GatewaySettings(Options):
+class GatewaySettings(Options, Role):
     """The settings of a gateway, with its limits (`Options`); paths are relative to their file."""
 
     role: ClassVar[str] = "gateway"
-    paths: ClassVar[tuple[str, ...]] = (
-        "program",
-        "authority",
-        "certificate",
-        "key",
-        "state",
-        "tokens",
-        "used",
-        "tls_certificate",
-        "tls_key",
-        "log",
-    )
     name: str  # the name in its certificate, under which it posts
-    program: str
+    program: File
     recorders: list[str]  # HOST:PORT of each recorder of the ledger
-    authority: str
-    certificate: str
-    key: str
-    state: str  # a file with the ledger as it was heard; it may be removed while the gateway does not run
+    authority: File
+    certificate: File
+    key: File
+    state: File  # a file with the ledger as it was heard; it may be removed while the gateway does not run
     host: str = "127.0.0.1"
     port: int = 31_415
-
-    @classmethod
-    def read(cls, path: pathlib.Path) -> "GatewaySettings":
-        return settings_of(cls, path)

@@ -13,6 +13,7 @@ from ..client import Data
 from ..frames import METADATA, PRIMARY, PROOF, SECONDARY, answer, code_of, joined, part_of
 
 from . import judge
+from .blobs import shards_in
 from .judge import Found, Judges
 from .ledger import ACK, ATTEST, Ledger
 from .store import Part, Store
@@ -56,8 +57,8 @@ def entries_of(ledger: Ledger, epoch: int, identifier: bytes) -> list[bytes]:
     found = blob.quorum(ATTEST, ledger.quorum)
     invalid = min(found[0], epoch) if found else epoch  # when it was declared invalid, or this epoch
     said: list[frames.Frame] = [client.RegisterEntry(identifier, blob.until - epoch)]
-    said += [client.AckEntry(it, identifier) for it in sorted(blob.votes[ACK].get(epoch, ()))]
-    said += [frames.AttestEntry(it, identifier) for it in sorted(blob.votes[ATTEST].get(invalid, ()))]
+    said += [client.AckEntry(it, identifier) for it in shards_in(blob.votes[ACK].get(epoch, 0))]
+    said += [frames.AttestEntry(it, identifier) for it in shards_in(blob.votes[ATTEST].get(invalid, 0))]
     return [client.write_frame(it) for it in said]
 
 

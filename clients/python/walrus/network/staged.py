@@ -14,7 +14,6 @@ from typing import Any, Callable, Iterable, Optional, TypeVar
 
 from .database import Database
 from .files import Files
-from .notify import extending
 
 TORN = "the database {} is torn: move it away and start the node without it, and the others fill it "
 TORN += "(network/OPERATING.md)"
@@ -68,11 +67,10 @@ class Staged(Database):
         lack parts of the log, and after a sync that failed another one proves nothing, as the system takes the pages
         for clean then. So all of it is written again to the database, and synced there."""
         said = False
-        with extending():
-            while self.base.execute("PRAGMA wal_checkpoint(TRUNCATE)").fetchone()[0]:
-                if not said:
-                    print(f"another process reads {self.path}: waiting until it ends", file=sys.stderr, flush=True)
-                said = True
+        while self.base.execute("PRAGMA wal_checkpoint(TRUNCATE)").fetchone()[0]:
+            if not said:
+                print(f"another process reads {self.path}: waiting until it ends", file=sys.stderr, flush=True)
+            said = True
 
     def stage(self, words: str, *values: object) -> sqlite3.Cursor:
         """Run a statement in the transaction that is committed next; if it fails, all that is staged is lost."""

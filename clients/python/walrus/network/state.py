@@ -51,7 +51,8 @@ class State(Database):
     present one among them; its owner then drops the rows of blobs that are over."""
 
     def __init__(self, path: str = "", tail: int = 0, pages: int = PAGES):
-        self.tail, self.pages, self.identity, self.entering = tail, pages, "", False
+        self.tail, self.pages, self.identity = tail, pages, ""
+        self.entering = False  # a checkpoint is being loaded, or entries are being applied: a commit would have a part
         self.chain: Optional[Chain] = None
         self.fresh = list[Entry]()  # entries that were applied since the last commit
         self.again = self.due = 0.0  # when to try a full disk again; when to commit what is saved with `soon`
@@ -154,7 +155,7 @@ class State(Database):
         """Commits what was applied, and deletes some rows that are no longer needed."""
         if self.tail:
             epoch = max(self.saved, self.ledger.epoch - 1)  # the entry that changes the epoch is its last one
-            rows = [(it.revision, it.key, epoch) for it in self.fresh]
+            rows = [(it.place, it.text, epoch) for it in self.fresh]
             self.base.executemany("INSERT OR REPLACE INTO entries VALUES (?, ?, ?)", rows)
             words = "DELETE FROM entries WHERE place < (SELECT min(place) FROM entries) + ? AND epoch <= ?"
             self.base.execute(words, (DROPPED, self.ledger.epoch - self.tail))
@@ -267,7 +268,7 @@ class State(Database):
 
     def note_place(self, entry: Entry) -> None:
         """Notes the place of an entry that counts, so that a recorder can answer if it is posted again."""
-        self.base.execute("INSERT OR REPLACE INTO places VALUES (?, ?)", (short_digest(entry.key), entry.revision))
+        self.base.execute("INSERT OR REPLACE INTO places VALUES (?, ?)", (short_digest(entry.text), entry.place))
 
     def place_of(self, text: str) -> Optional[int]:
         """Returns the noted place of an entry that counted, or None."""
