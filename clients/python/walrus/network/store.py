@@ -19,7 +19,7 @@ from .judge import name_of
 from .staged import Staged
 
 LAST = b"\xff" * 32  # the greatest identifier
-VERSION, BATCH = 1, 256  # of the tables; parts or blobs that are deleted at once
+VERSION, BATCH = 1, 50  # of the tables; parts or blobs that are deleted at once: others wait meanwhile
 SEEN = "epoch <= ? AND (gone IS NULL OR gone > ?)"  # what a shard of an epoch holds
 SETTLED = f"max(part = {METADATA}) AND (total(part IN ({PRIMARY}, {SECONDARY})) = 2 OR max(part = {PROOF}))"
 TABLES = """
