@@ -262,7 +262,7 @@ class Torn(unittest.TestCase):
         state.name = "/x/a.ledger"
         node: Any = types.SimpleNamespace(state=state)
         for running in (node, None):
-            self.assertRegex(mend_of(settings, running), "^the database /x/a.db is torn: move it away and start")
+            self.assertRegex(mend_of(settings, running), "^the database /x/a.db is torn, or its disk does not read it")
         state.must_be_whole.side_effect = sqlite3.DatabaseError("its pages do not fit together")
         self.assertRegex(mend_of(settings, node), "^the copy of the ledger /x/a.ledger is torn: start the node again")
 

@@ -74,6 +74,7 @@ class Store(Staged):
 
     def open_tables(self) -> None:
         """Make the tables, or upgrade those of the previous version; raises if they are torn or of a later one."""
+        self.must_belong()
         super().open_tables()
         [(version,)] = self.base.execute("PRAGMA user_version")
         if version > VERSION:
@@ -82,6 +83,14 @@ class Store(Staged):
         self.base.create_function("name_of", 1, name_of, deterministic=True)
         self.base.executescript(f"{OLDER if older else TABLES}; PRAGMA user_version = {VERSION}")
         self.must_be_whole()
+
+    def must_belong(self) -> None:
+        """Raise if the database is new beside files of another one: the first sweep would remove all of them."""
+        folder = self.path.with_suffix(".parts")
+        is_new = not self.base.execute("SELECT 1 FROM sqlite_master").fetchone()
+        if is_new and any(folder.glob("[0-9a-f][0-9a-f]/*")):
+            words = "put that database back, or move the folder away too (network/OPERATING.md)"
+            raise OSError(f"the database {self.path} is new, and {folder} has files of another one: {words}")
 
     def note(self, revision: int, epoch: int, shard: int, request: bytes, reply: bytes) -> None:
         """Stage a request and its reply for the history of a recorded run."""
