@@ -88,6 +88,23 @@ class Apart(ShardCase):
         self.open()
         self.assertEqual((self.files(), await self.read(primary[1:33])), ([], []))
 
+    async def test_a_database_is_not_opened_without_its_files(self) -> None:
+        """Else the node would vouch for all that its rows name, and say that it is ready for it."""
+        metadata, primary, _ = await self.put(bytes(LARGE))
+        folder = self.files()[0].parents[1]
+        self.close()
+        away = folder.rename(folder.with_name("away.parts"))
+        for is_there in (False, False, True, True):  # and then as a mount point
+            if is_there:
+                folder.mkdir(exist_ok=True)
+            with self.assertRaisesRegex(OSError, "is missing or empty: copy or mount it"):
+                Store(self.path)
+            self.assertEqual(folder.exists(), is_there)
+        folder.rmdir()
+        away.rename(folder)
+        self.open()
+        self.assertEqual(await self.read(primary[1:33]), [metadata, primary])
+
 
 class Places(unittest.IsolatedAsyncioTestCase):
     async def test_the_folder_of_a_database_may_have_any_name(self) -> None:

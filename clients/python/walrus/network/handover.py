@@ -145,7 +145,8 @@ async def tell_past(node: "Node") -> None:
 
 
 async def hand_over(node: "Node") -> None:
-    """Do this node's part in each handover."""
+    """Do this node's part in each handover, once it is known which of its files are missing."""
+    await node.scrub.compared.wait()
     while True:
         await node.until(lambda ledger: ledger.moving, None)
         await move(node)

@@ -85,12 +85,17 @@ class Store(Staged):
         self.must_be_whole()
 
     def must_belong(self) -> None:
-        """Raise if the database is new beside files of another one: the first sweep would remove all of them."""
-        folder = self.path.with_suffix(".parts")
-        is_new = not self.base.execute("SELECT 1 FROM sqlite_master").fetchone()
-        if is_new and any(folder.glob("[0-9a-f][0-9a-f]/*")):
+        """Raise if the database is new beside files of another one, as the first sweep would remove all of them; or if
+        it names files, and the folder was not copied or mounted with it."""
+        folder, digits = self.path.with_suffix(".parts"), "[0-9a-f]" * 2
+        is_there, named = "SELECT 1 FROM sqlite_master", "SELECT 1 FROM contents WHERE file IS NOT NULL"
+        if not self.base.execute(is_there).fetchone() and any(folder.glob(f"{digits}/*")):
             words = "put that database back, or move the folder away too (network/OPERATING.md)"
             raise OSError(f"the database {self.path} is new, and {folder} has files of another one: {words}")
+        has_names = self.base.execute(f"{is_there} WHERE name = 'of_file'").fetchone()
+        if has_names and self.base.execute(named).fetchone() and not any(folder.glob(digits)):
+            words = "copy or mount it; if it is lost, move the database away too, and the others fill the node"
+            raise OSError(f"{self.path} names files, and {folder} is missing or empty: {words} (network/OPERATING.md)")
 
     def note(self, revision: int, epoch: int, shard: int, request: bytes, reply: bytes) -> None:
         """Stage a request and its reply for the history of a recorded run."""
