@@ -110,6 +110,7 @@ class StormCase(NetworkCase):
             self.assertIn(TORN.format(self.folder / f"{LIAR}.db"), str(caught.exception))
             for torn in self.folder.glob(f"{LIAR}.db*"):
                 torn.unlink()
+            shutil.rmtree(self.folder / f"{LIAR}.parts")
             await self.start(LIAR)
             self.counts["torn"] += 1
 

@@ -58,7 +58,8 @@ class Crash(unittest.IsolatedAsyncioTestCase):
                 names = {row[0] for row in base.execute("SELECT file FROM contents WHERE file IS NOT NULL")}
                 orphans = "SELECT count(*) FROM contents WHERE content NOT IN (SELECT content FROM held)"
                 self.assertEqual(base.execute(orphans).fetchone(), (0,))
-            list(store.files.strays(names.__contains__))
+            for number in range(256):
+                store.files.sweep(f"{number:02x}", names)
             left = {it.name for it in store.files.folder.glob("*/*")}
             self.assertEqual((left, [it for it in left if it.endswith(HALF)]), (names, []))
         finally:

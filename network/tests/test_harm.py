@@ -147,6 +147,42 @@ class Turns(TurnCase):
             self.assertEqual(persisted.await_count, 3)
         self.assertEqual(self.held(names), [True] + [False] * 40)
 
+    async def test_others_get_turns_while_many_blobs_are_registered_anew(self) -> None:
+        """Else one entry after the other of a publisher would hold up all nodes that hold the blobs, at once."""
+        ends = [registration("x", it, 1) for it in range(200)]
+        names = [bytes.fromhex(it.split("/")[2]) for it in ends]
+        await self.enter([FOUNDED, *ends])
+        for name in names:
+            self.store.put(1, 0, name, 0, b"metadata", None)
+        await self.enter([BEGUN, *OVER])
+        turns, found, usual = 0, list[tuple[int, int]](), self.store.expire
+
+        def expire(some: list[bytes], before: int) -> None:
+            found.append((len(some), turns))
+            usual(some, before)
+
+        async def count() -> None:
+            nonlocal turns
+            while True:
+                turns += 1
+                await asyncio.sleep(0)
+
+        counting = asyncio.create_task(count())
+        with mock.patch.object(self.store, "expire", expire):
+            await self.enter([registration("x", it) for it in range(200)])
+        counting.cancel()
+        self.assertEqual([size for size, _ in found], [scrub.AT_ONCE] * (200 // scrub.AT_ONCE))
+        self.assertEqual(len({turn for _, turn in found}), len(found))
+        self.assertEqual(self.held(names), [False] * 200)
+        for name in names:
+            self.store.put(1, 1, name, 0, b"metadata", None)
+        self.store.turn(2)  # as if its shard went to another node
+        left = 200
+        while self.store.sweep():
+            left, before = self.store.counts()["blobs"], left
+            self.assertLessEqual(before - left, scrub.AT_ONCE)
+        self.assertEqual(left, 0)
+
     async def test_a_turn_costs_a_ledger_the_same_however_many_blobs_end_with_it(self) -> None:
         self.enterContext(mock.patch.object(state, "DROPPED", 10))
         steps = dict[tuple[int, int], int]()
@@ -226,7 +262,7 @@ class Torn(unittest.TestCase):
         state.name = "/x/a.ledger"
         node: Any = types.SimpleNamespace(state=state)
         for running in (node, None):
-            self.assertRegex(mend_of(settings, running), "^the database /x/a.db is torn: move it away and start")
+            self.assertRegex(mend_of(settings, running), "^the database /x/a.db is torn, or its disk does not read it")
         state.must_be_whole.side_effect = sqlite3.DatabaseError("its pages do not fit together")
         self.assertRegex(mend_of(settings, node), "^the copy of the ledger /x/a.ledger is torn: start the node again")
 

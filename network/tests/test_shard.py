@@ -1,6 +1,5 @@
 """A shard with its disk: what it answers, and what a bad disk changes about that."""
 import asyncio
-import contextlib
 import shutil
 import sqlite3
 import struct
@@ -136,10 +135,8 @@ class Disk(ShardCase):
         (folder / "half-written.half").write_bytes(b"x" * 9)
         (folder / "unnamed").write_bytes(b"x")
         [fresh] = self.store.files.write(bytes(32), bytes(100))  # it has no row yet, and is to get one
-        with contextlib.closing(self.store.reader()) as base:
-            words = "SELECT 1 FROM contents WHERE file = ?"
-            swept = list(self.store.files.strays(lambda it: base.execute(words, (it,)).fetchone() is not None))
-        self.assertEqual(sorted(swept), [("half-written.half", 9), ("unnamed", 1)])
+        swept = self.store.files.sweep(folder.name, {it.name for it in named})
+        self.assertEqual(swept, (2, set()))
         self.assertEqual({*self.files()}, {*named, self.store.files.path(fresh)})
 
     async def test_names_that_are_looked_up_for_long_hold_up_nothing_of_the_disk(self) -> None:

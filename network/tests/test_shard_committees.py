@@ -1,5 +1,7 @@
 """What a shard holds as committees change."""
 import asyncio
+import contextlib
+import io
 import sqlite3
 import types
 import unittest
@@ -152,6 +154,25 @@ class Committees(NodeCase):
             await handover.move(node)
         self.assertEqual([later.settled(it) for it in names], [True, True])
         self.assertEqual(node.posted, [entry_key("a", "ready", 1)])
+
+    async def test_what_the_disk_loses_behind_ready_is_recovered_while_the_handover_is_under_way(self) -> None:
+        """It may last for weeks, and those that leave delete what they hold at its end."""
+        lost, open_one = await self.lacks(700), await self.lacks(800, certified=False)
+        self.apply(OPERATOR, "begin", 1, 1, "a,b,c,d")
+        node = self.node({0: {0: self.shard}, 1: {0: self.side(1)}})
+        self.assertNotIn(1, (await handover.survey(node))[0])  # what it lacks before that, `move` recovers
+        self.apply("a", "ready", 1)
+        new = await self.lacks(LARGE)
+        self.assertEqual((await handover.survey(node))[0][1], {lost: True, new: False})
+        node.settings, node.until, said = types.SimpleNamespace(heal=0.0), mock.AsyncMock(), io.StringIO()
+        with contextlib.redirect_stderr(said):
+            healing = asyncio.create_task(handover.heal(node))
+            async with asyncio.timeout(60):
+                while not all(node.sides[1][0].settled(it) for it in (lost, new)):
+                    await asyncio.sleep(0.01)
+            healing.cancel()
+        self.assertIn(f"1 blobs are lacking on the disk that this node has vouched for, {lost.hex()}:", said.getvalue())
+        self.assertEqual((self.ledger.moving, node.sides[1][0].settled(open_one)), (True, False))
 
     async def test_who_has_no_shard_yet_is_not_ready(self) -> None:
         name = await self.certified(b"owed")

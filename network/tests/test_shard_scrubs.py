@@ -1,5 +1,7 @@
 """What a scrub reads, finds and drops of a shard."""
 import asyncio
+import contextlib
+import io
 import json
 import time
 import types
@@ -9,7 +11,7 @@ from unittest import mock
 from harness import lacking
 from shard_case import LARGE, NodeCase
 from walrus.frames import METADATA, PRIMARY
-from walrus.network import scrub
+from walrus.network import handover, recovery, scrub
 from walrus.network.ledger import OPERATOR, Entry, Ledger, entry_key
 
 
@@ -111,6 +113,53 @@ class Scrubs(NodeCase):
             self.assertLess(following.call_count, 5)
             self.assertEqual(scrubbing.figures.blobs, 1)
         self.assertTrue(self.shard.settled(name))
+
+
+@unittest.skipIf(lacking(), f"{lacking()} is not here (network/install)")
+class Missing(NodeCase):
+    """Files that are missing, such as after a copy that was not complete."""
+
+    async def asyncSetUp(self) -> None:
+        await super().asyncSetUp()
+        blobs = [self.drawn.randbytes(LARGE) for _ in range(3)]
+        self.names = [await self.certified(it) for it in blobs]
+        self.others |= {name: await self.walrus.encode(it, 1) for name, it in zip(self.names, blobs)}
+        self.here = self.node({0: {0: self.shard}})
+        self.scrub = self.here.scrub = scrub.Scrub(self.here)
+        self.said = self.enterContext(contextlib.redirect_stderr(io.StringIO()))
+
+    async def lacked(self) -> dict[int, dict[bytes, bool]]:
+        return (await handover.survey(self.here))[0]
+
+    async def test_a_sweep_finds_files_that_are_missing_and_their_blobs_are_lacking(self) -> None:
+        files = self.files()
+        for count, name in enumerate(self.names[:2], 1):
+            gone = next(it for it in files if it.name.startswith(name.hex()))
+            sound = gone.read_bytes()
+            gone.unlink()
+            self.assertEqual(await self.lacked(), {})
+            for _ in range(2):
+                await self.scrub.sweep()
+            self.assertEqual(await self.lacked(), {0: {name: True}})
+            self.assertEqual(self.said.getvalue().count("a: 1 files are missing in "), count)
+            if name == self.names[0]:
+                gone.write_bytes(sound)  # as its disk is mounted after all: then nobody is asked
+            self.assertEqual(await recovery.settle(self.here, 0, self.names), 0)
+            self.assertEqual(any(it.asked for it in self.seats), name == self.names[1])
+            self.assertEqual((len(self.files()), await self.lacked()), (6, {}))
+
+    async def test_nothing_is_said_in_a_handover_before_missing_files_are_known(self) -> None:
+        async def wait(node: object) -> None:
+            await asyncio.Event().wait()
+
+        moving = mock.AsyncMock(side_effect=wait)
+        with mock.patch.object(handover, "move", moving):
+            task = asyncio.create_task(handover.hand_over(self.here))
+            for count, step in (0, asyncio.sleep(0.05)), (1, self.scrub.sweep()):
+                await step
+                await asyncio.sleep(0.05)
+                self.assertEqual(moving.await_count, count)
+            task.cancel()
 
 
 if __name__ == "__main__":

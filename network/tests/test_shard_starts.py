@@ -65,6 +65,47 @@ class Older(ShardCase):
             Store(self.path)
 
 
+@unittest.skipIf(lacking(), f"{lacking()} is not here (network/install)")
+class Apart(ShardCase):
+    """A database and its folder of files, one of which was moved or mounted without the other."""
+
+    async def test_a_new_database_removes_no_files_of_the_one_before(self) -> None:
+        """Such as one that was moved away as the disk did not read it: with its files it is still the node's."""
+        metadata, primary, _ = await self.put(bytes(LARGE))
+        files = self.files()
+        self.close()
+        away = self.path.rename(self.path.with_name("away.db"))
+        for _ in range(2):  # systemd starts it again and again
+            with self.assertRaisesRegex(OSError, "has files of another one: put that database back, or move"):
+                Store(self.path)
+        away.rename(self.path)
+        self.open()
+        self.assertEqual((self.files(), await self.read(primary[1:33])), (files, [metadata, primary]))
+        folder = files[0].parents[1]
+        self.close()
+        self.path.rename(away)
+        folder.rename(folder.with_name("away.parts"))
+        self.open()
+        self.assertEqual((self.files(), await self.read(primary[1:33])), ([], []))
+
+    async def test_a_database_is_not_opened_without_its_files(self) -> None:
+        """Else the node would vouch for all that its rows name, and say that it is ready for it."""
+        metadata, primary, _ = await self.put(bytes(LARGE))
+        folder = self.files()[0].parents[1]
+        self.close()
+        away = folder.rename(folder.with_name("away.parts"))
+        for is_there in (False, False, True, True):  # and then as a mount point
+            if is_there:
+                folder.mkdir(exist_ok=True)
+            with self.assertRaisesRegex(OSError, "is missing or empty: copy or mount it"):
+                Store(self.path)
+            self.assertEqual(folder.exists(), is_there)
+        folder.rmdir()
+        away.rename(folder)
+        self.open()
+        self.assertEqual(await self.read(primary[1:33]), [metadata, primary])
+
+
 class Places(unittest.IsolatedAsyncioTestCase):
     async def test_the_folder_of_a_database_may_have_any_name(self) -> None:
         """A thread opens the database by a URI, in which some characters have a meaning."""

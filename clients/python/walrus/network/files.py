@@ -8,7 +8,7 @@ import itertools
 import os
 import pathlib
 import secrets
-from typing import Callable, Iterable, Iterator
+from typing import Iterable
 
 from .. import client, wire
 
@@ -76,16 +76,15 @@ class Files:
             with contextlib.suppress(OSError):  # what stays is swept after the next start
                 self.path(name).unlink()
 
-    def strays(self, is_named: Callable[[str], bool]) -> Iterator[tuple[str, int]]:
-        """Remove files that nothing names, and yield the name and size of each. Those that this process wrote stay, as
-        it names or removes them itself."""
-        for folder in sorted(self.folder.iterdir()):
-            entries = list[os.DirEntry[str]]()
-            with contextlib.suppress(OSError):  # it is no folder, or one that cannot be read
-                entries += os.scandir(folder)
-            for entry in entries:
-                if self.own not in entry.name and not is_named(entry.name):
-                    with contextlib.suppress(OSError):
-                        size = entry.stat().st_size
-                        os.unlink(entry.path)
-                        yield entry.name, size
+    def sweep(self, digits: str, named: set[str]) -> tuple[int, set[str]]:
+        """Remove files that nothing names from the folder for two digits; return how many they were, and the names
+        without a file. Files that this process wrote stay, as it names or removes them itself."""
+        try:
+            found = {it.name for it in os.scandir(self.folder / digits)}
+        except OSError:  # a folder that cannot be read now says nothing of its files
+            return 0, set()
+        strays = {it for it in found - named if self.own not in it}
+        for name in strays:
+            with contextlib.suppress(OSError):
+                os.unlink(self.folder / digits / name)
+        return len(strays), named - found

@@ -22,11 +22,12 @@ LATER = 60.0  # seconds until a refused address is posted again
 async def survey(node: "Node") -> tuple[dict[int, dict[bytes, bool]], list[bytes]]:
     """Return by epoch the blobs that the node owes and a shard lacks, with whether the node has vouched for each; and
     the blobs of the writing epoch that all shards hold and on which it has not voted. A node owes the blobs for which
-    it has vouched, by a vote or by `ready`, and in the present epoch all that are certified. At most MANY blobs of an
-    epoch are in each."""
+    it has vouched, by a vote or by `ready`, and all that are certified in the present epoch, or for the next committee;
+    what else that committee must hold is the work of `move` until the node is `ready`. At most MANY blobs of an epoch
+    are in each."""
     ledger, lacks, unsaid = node.ledger, dict[int, dict[bytes, bool]](), list[bytes]()
     for epoch, side in list(node.sides.items()):
-        ready = epoch == ledger.epoch and not ledger.moving and set(side) <= ledger.ready
+        ready = epoch == ledger.writing_epoch and set(side) <= ledger.ready
         after, own = b"", sum(1 << shard for shard in side)
         while side and (page := ledger.blobs.page(after)):
             first, after = page[0][0], page[-1][0]
@@ -41,7 +42,7 @@ async def survey(node: "Node") -> tuple[dict[int, dict[bytes, bool]], list[bytes
                         unsaid.append(identifier)
                     continue
                 vouched = said or ready and certified is not None and certified < epoch
-                owed = vouched or certified is not None and epoch == ledger.epoch
+                owed = vouched or certified is not None and epoch in (ledger.epoch, certified)
                 if owed and len(lacks.get(epoch, ())) < MANY:
                     if not all(shard.settled(identifier) for shard in side.values()):
                         lacks.setdefault(epoch, {})[identifier] = vouched
@@ -60,7 +61,7 @@ async def heal(node: "Node") -> None:
             begun = clock()
             lacks, unsaid = await survey(node)
             taken = clock() - begun
-            vouched = [it for blobs in lacks.values() for it, said in blobs.items() if said]
+            vouched = [*dict.fromkeys(it for blobs in lacks.values() for it, said in blobs.items() if said)]
             urgent = any(map(node.ledger.certificate, vouched))
             lost = tell_lost(node, vouched, lost, urgent, any(len(it) >= MANY for it in lacks.values()))
             for epoch, blobs in lacks.items():
@@ -144,7 +145,8 @@ async def tell_past(node: "Node") -> None:
 
 
 async def hand_over(node: "Node") -> None:
-    """Do this node's part in each handover."""
+    """Do this node's part in each handover, once it is known which of its files are missing."""
+    await node.scrub.compared.wait()
     while True:
         await node.until(lambda ledger: ledger.moving, None)
         await move(node)

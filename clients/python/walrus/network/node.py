@@ -26,7 +26,7 @@ from .ledger import ACK, ATTEST, REGISTER, Entry, entry_key
 from .notify import ready
 from .peers import Peers
 from .recovery import Progress, passing, settle
-from .scrub import Scrub
+from .scrub import AT_ONCE, Scrub
 from .settings import Settings
 from .shard import DECLINED, FULL, NO_MEMORY, Past, Shard
 from .staged import TORN
@@ -109,14 +109,16 @@ class Node(View):
 
     async def apply(self, entries: list[Entry]) -> None:
         """Apply entries in their order, after a checkpoint if one was just loaded. An expired blob that is registered
-        again begins without parts. All such blobs are dropped from the disk before the first of them is applied, so
-        that the disk is waited for only once: anybody may register many blobs again after an epoch change."""
+        again begins without parts. All such blobs are dropped from the disk before the first of them is applied, in a
+        few steps, between which others are served: anybody may register many blobs again after an epoch change."""
         ledger, gone = self.ledger, set[bytes]()
         await self.turn()
         for place, entry in enumerate(entries):
             if self.begins_anew(entry) and entry.values[0] not in gone:
-                gone = {it.values[0] for it in entries[place:] if self.begins_anew(it)}
-                await self.store.persist(functools.partial(self.store.expire, [*gone], ledger.epoch))
+                names = [*(gone := {it.values[0] for it in entries[place:] if self.begins_anew(it)})]
+                for first in range(0, len(names), AT_ONCE):
+                    some = names[first : first + AT_ONCE]  # noqa: E203
+                    await self.store.persist(functools.partial(self.store.expire, some, ledger.epoch))
             ledger.apply(entry)
             await self.turn()
 

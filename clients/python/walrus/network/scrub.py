@@ -4,6 +4,7 @@ disk, and a restart continues from there."""
 import asyncio
 import contextlib
 import dataclasses
+import functools
 import json
 import math
 import sqlite3
@@ -20,6 +21,9 @@ if TYPE_CHECKING:
 DAY, PAUSE, LOOKED = 86_400.0, 2.0, 60.0  # seconds: a day; until a retry; until the clock is read again
 AT_ONCE = 50  # expired blobs that are dropped in one step; 500 held the loop for 0.05 s, and 0.5 s on a busy machine
 LEAST = 65_536  # bytes that the rate counts for a blob at least, as anybody may store many small ones
+NAMED = "SELECT file FROM contents WHERE file BETWEEN ? AND ? || '~'"
+OF_FILE = """SELECT holding, identifier, part FROM held WHERE holding IN (SELECT holding FROM holdings)
+    AND identifier = ? AND NOT wrong AND content = (SELECT content FROM contents WHERE file = ?)"""
 TRIES = 30  # checks of a blob that may fail, such as for lack of memory or a descriptor, before it is skipped
 
 
@@ -43,6 +47,7 @@ class Scrub:
 
     def __init__(self, node: "Node"):
         self.node, self.now, self.left = node, asyncio.Event(), asyncio.Event()
+        self.compared = asyncio.Event()  # once the first sweep has compared rows with files
         self.tries = 0  # of the next blob
         told = node.store.state("scrub")
         self.figures: Figures = Figures(**json.loads(told)) if told else Figures(ended=time.time())
@@ -107,13 +112,13 @@ class Scrub:
         print(f"{self.node.name}: a scrub {told}, and swept {figures.swept} files", file=sys.stderr, flush=True)
 
     async def sweep_always(self) -> None:
-        """Drop expired blobs and sweep at the start, and whenever there may be something to drop."""
+        """Sweep and drop expired blobs at the start, and whenever there may be something to drop."""
         while True:
             await self.left.wait()
             self.left.clear()
             async with passing(self.node.name, "expired blobs and unnamed files are removed later", PAUSE):
-                await self.expire()
                 await self.sweep()
+                await self.expire()
                 continue
             self.left.set()
 
@@ -127,14 +132,29 @@ class Scrub:
                 raise OSError(f"the disk does not take the removal of {len(over)} expired blobs")
             blobs.drop(over)
 
+    def compare(self, digits: str, base: sqlite3.Connection) -> tuple[int, list[tuple[int, bytes, int]]]:
+        """Remove the files for two digits that nothing names; return how many they were, and the sound parts whose file
+        is missing. Names are read before the files and rows behind them: a file is there for as long as its row is."""
+        named = {name for name, in base.execute(NAMED, (digits, digits))}
+        swept, lost = self.node.store.files.sweep(digits, named)
+        return swept, [row for it in lost for row in base.execute(OF_FILE, (bytes.fromhex(it[:64]), it))]
+
     async def sweep(self) -> None:
-        """Remove files that nothing names, as a crash may leave them, and parts of shards that are no longer here."""
-        store, words = self.node.store, "SELECT 1 FROM contents WHERE file = ?"
-
-        def sweep_files(base: sqlite3.Connection) -> int:
-            return len([*store.files.strays(lambda name: base.execute(words, (name,)).fetchone() is not None)])
-
-        self.figures.swept += await store.asked(sweep_files)
+        """Remove files that nothing names, as a crash may leave them, and parts of shards that are no longer here. Mark
+        parts whose file is missing, so that they are lacking."""
+        store, lost = self.node.store, 0
+        for number in range(256):
+            swept, rows = await store.asked(functools.partial(self.compare, f"{number:02x}"))
+            self.figures.swept, lost = self.figures.swept + swept, lost + len(rows)
+            for place, row in enumerate(rows, 1):
+                store.mark(*row, True)
+                if place % AT_ONCE == 0 or place == len(rows):
+                    if not await store.durable():
+                        raise OSError(f"the disk does not take marks of {len(rows)} missing files")
+        self.compared.set()
+        if lost:
+            told = f"{lost} files are missing in {store.files.folder}, as if not all of it had been copied"
+            print(f"{self.node.name}: {told}; they are recovered from the others", file=sys.stderr, flush=True)
         while store.sweep():
             if not await store.durable():
                 raise OSError("the disk does not take the removal of parts")

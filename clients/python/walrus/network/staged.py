@@ -15,8 +15,11 @@ from typing import Any, Callable, Iterable, Optional, TypeVar
 from .database import Database
 from .files import Files
 
-TORN = "the database {} is torn: move it away and start the node without it, and the others fill it "
-TORN += "(network/OPERATING.md)"
+TORN = """the database {0} is torn, or its disk does not read it. If `cat {0}* > /dev/null` fails, or other nodes report
+the same now, keep the database and look at the disks. Otherwise move it and its folder of parts away, together, and
+start the node without them: the others fill it (network/OPERATING.md)""".replace(
+    "\n", " "
+)
 THREADS = 4  # for work that may wait long for the disk
 Result = TypeVar("Result")
 Written = asyncio.Future[bool]  # whether one group of staged statements is on the disk

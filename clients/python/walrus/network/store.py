@@ -19,7 +19,7 @@ from .judge import name_of
 from .staged import Staged
 
 LAST = b"\xff" * 32  # the greatest identifier
-VERSION, BATCH = 1, 256  # of the tables; parts or blobs that are deleted at once
+VERSION, BATCH = 1, 50  # of the tables; parts or blobs that are deleted at once: others wait meanwhile
 SEEN = "epoch <= ? AND (gone IS NULL OR gone > ?)"  # what a shard of an epoch holds
 SETTLED = f"max(part = {METADATA}) AND (total(part IN ({PRIMARY}, {SECONDARY})) = 2 OR max(part = {PROOF}))"
 TABLES = """
@@ -74,6 +74,7 @@ class Store(Staged):
 
     def open_tables(self) -> None:
         """Make the tables, or upgrade those of the previous version; raises if they are torn or of a later one."""
+        self.must_belong()
         super().open_tables()
         [(version,)] = self.base.execute("PRAGMA user_version")
         if version > VERSION:
@@ -82,6 +83,19 @@ class Store(Staged):
         self.base.create_function("name_of", 1, name_of, deterministic=True)
         self.base.executescript(f"{OLDER if older else TABLES}; PRAGMA user_version = {VERSION}")
         self.must_be_whole()
+
+    def must_belong(self) -> None:
+        """Raise if the database is new beside files of another one, as the first sweep would remove all of them; or if
+        it names files, and the folder was not copied or mounted with it."""
+        folder, digits = self.path.with_suffix(".parts"), "[0-9a-f]" * 2
+        is_there, named = "SELECT 1 FROM sqlite_master", "SELECT 1 FROM contents WHERE file IS NOT NULL"
+        if not self.base.execute(is_there).fetchone() and any(folder.glob(f"{digits}/*")):
+            words = "put that database back, or move the folder away too (network/OPERATING.md)"
+            raise OSError(f"the database {self.path} is new, and {folder} has files of another one: {words}")
+        has_names = self.base.execute(f"{is_there} WHERE name = 'of_file'").fetchone()
+        if has_names and self.base.execute(named).fetchone() and not any(folder.glob(digits)):
+            words = "copy or mount it; if it is lost, move the database away too, and the others fill the node"
+            raise OSError(f"{self.path} names files, and {folder} is missing or empty: {words} (network/OPERATING.md)")
 
     def note(self, revision: int, epoch: int, shard: int, request: bytes, reply: bytes) -> None:
         """Stage a request and its reply for the history of a recorded run."""
