@@ -1,6 +1,8 @@
 """Tokens of a gateway: each has rights, to read or to store, and bounds. The file has only their SHA-256."""
 import argparse
+import contextlib
 import dataclasses
+import fcntl
 import hashlib
 import hmac
 import json
@@ -110,7 +112,18 @@ def fault_of(path: pathlib.Path, default: pathlib.Path) -> str:
 
 def change_token(path: pathlib.Path, name: str, told: Optional[dict[str, Any]]) -> str:
     """Makes a token of a name in a file, in place of an older one, or removes it if `told` is None. Returns the text of
-    the token, which is stored nowhere. A new file lets anyone read, as without a file."""
+    the token, which is stored nowhere. A new file lets anyone read, as without a file. Commands at once take turns."""
+    folder = os.open(path.resolve().parent, os.O_RDONLY | os.O_DIRECTORY | os.O_CLOEXEC)
+    try:
+        with contextlib.suppress(OSError):  # a disk without locks
+            fcntl.flock(folder, fcntl.LOCK_EX)
+        return changed(path, name, told)
+    finally:
+        os.close(folder)
+
+
+def changed(path: pathlib.Path, name: str, told: Optional[dict[str, Any]]) -> str:
+    """Does the work of `change_token` once it is this command's turn."""
     known: dict[str, Any] = json.loads(path.read_text()) if path.exists() else {ANYONE: {"rights": [READ]}}
     made = secrets.token_urlsafe(32) if told is not None and name != ANYONE else ""
     if told is None and known.pop(name, None) is None:
