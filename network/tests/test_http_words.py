@@ -79,6 +79,15 @@ class Words(unittest.IsolatedAsyncioTestCase):
         self.assertEqual(known["alice"], told)
         self.assertNotIn(token, (self.folder / "tokens.json").read_text())
 
+    def test_anyone_may_store_only_if_that_is_said(self) -> None:
+        self.said("token", "anyone", "--folder", self.folder, status=1)
+        self.assertEqual([*self.folder.iterdir()], [])
+        self.said("token", "anyone", "--folder", self.folder, "--rights", "read,store")
+        self.said("token", "alice", "--folder", self.folder)
+        found = tokens.read_tokens(self.folder / "tokens.json")
+        self.assertEqual([found[it].rights for it in ("anyone", "alice")], [{"read", "store"}] * 2)
+        self.said("token", "anyone", "--folder", self.folder, "--remove")
+
     def test_tokens_that_are_made_at_once_are_all_known(self) -> None:
         path, drawn = self.folder / "tokens.json", secrets.token_urlsafe
 
