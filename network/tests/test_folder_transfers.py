@@ -5,6 +5,7 @@ import pathlib
 import socket
 import stat
 import tempfile
+import tracemalloc
 import unittest
 import unittest.mock
 from typing import Any, Optional, Union
@@ -62,6 +63,7 @@ class Places(unittest.TestCase):
 
     def test_names_that_a_disk_takes_for_one(self) -> None:
         pairs = [["a/b", "A/b"], ["a", "A"], ["\u00e5", "a\u030a"], ["stra\u00dfe", "STRASSE"], ["x/a", "X/b"]]
+        pairs += [["A", "a!", "a/x"], ["A/x/0", "A/x/1", "B", "a/y", "c"], ["x/y/A/1", "x/y/B", "x/y/a/0"]]
         with places.Root(str(self.root)) as root:
             for pair in pairs:
                 root.must_keep_apart(pair)  # this disk keeps them apart
@@ -70,6 +72,11 @@ class Places(unittest.TestCase):
                     with self.assertRaises(Failure):
                         root.must_keep_apart(pair)
                 root.must_keep_apart(["a/b", "a/c", "b"])
+                root.must_keep_apart(["A/x", "a!", "b/a", "c/A", "x/a/b", "y/A/c"])
+                tracemalloc.start()
+                self.addCleanup(tracemalloc.stop)
+                root.must_keep_apart([f"{number}{'/a' * 500}" for number in range(200)])
+                self.assertLess(tracemalloc.get_traced_memory()[1], 3_000_000)  # not for each folder of each path
             with unittest.mock.patch.object(places.os, "access", return_value=True):
                 self.assertTrue(root.folds())
             self.assertEqual([*self.root.iterdir()], [])
