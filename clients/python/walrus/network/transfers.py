@@ -19,7 +19,7 @@ from .manifest import clean
 
 PART, TRIES = 1_048_576, 5
 PATIENCE = 180  # seconds for a gateway to read a part of what is sent, or to answer
-MOST_JSON = 4_194_304  # most bytes of a gateway's JSON: a page of a list has 170 KB, the largest status about 1 MB
+MOST_JSON = 8_388_608  # most bytes of a gateway's JSON: a page of a list has 170 KB, the largest status 4.4 MB
 BY_STATUS, AWAY = {404: 4, 410: 3, 503: 4}, (502, 503, 504)  # exit statuses; what a gateway that restarts may answer
 
 
