@@ -24,6 +24,8 @@ class Dates(unittest.TestCase):
             (2, False, 7 * day, "1m", 1),
             (2, True, 0, "28d", 1),
             (5, False, 0, "1w", 1),
+            (9, False, 0, "90d", 7),  # of a machine whose clock is behind
+            (9, True, -3_650 * day, "90d", 6),
         ):
             with mock.patch.object(time, "time", lambda now=now: 60_000_000 + now):
                 status = {"calendar": plan, "epoch": epoch, "moving": moving}

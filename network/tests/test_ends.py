@@ -1,5 +1,6 @@
 """Until when a file or a folder is kept, as is told of it: until the first of its parts ends."""
 import hashlib
+import itertools
 import pathlib
 import tempfile
 import types
@@ -12,10 +13,13 @@ from upload_case import UploadCase
 from walrus.network import chunks, trees
 from walrus.network.blobs import Blob
 from walrus.network.checked import Naming
+from walrus.network.entries import Entry, entry_key
 from walrus.network.gathering import Costs, Storing, Upload, once
+from walrus.network.ledger import Ledger
 from walrus.network.listing import Lister
 from walrus.network.packing import SMALL
 from walrus.network.pieces import Memory
+from walrus.network.problems import Problem
 from walrus.network.shares import Charge
 from walrus.network.transfers import Bar, Failure
 
@@ -84,6 +88,27 @@ class Ends(unittest.IsolatedAsyncioTestCase):
                 told = await lister.extend(names[0], epochs, mock.Mock())
             self.assertEqual((told["endEpoch"], {*self.asked}), (expected, {*asked}))
         self.assertEqual(self.asked[-1], names[0])  # the list, once its pieces are kept
+
+    async def test_what_ended_just_before_is_not_kept_for_longer(self) -> None:
+        name, ledger, places, charge = bytes([7]) * 32, Ledger(), itertools.count(1), mock.Mock()
+        begin = [entry_key("operator", "begin", epoch, 1, "a,b,c,d") for epoch in range(2)]
+        ready, finish = [entry_key(node, "ready", 1) for node in "abc"], entry_key("a", "finish", 1)
+        acks = [entry_key(node, "ack", 0, name.hex()) for node in "abc"]
+
+        async def enter(*texts: str) -> None:
+            for text in texts:
+                ledger.apply(Entry(next(places), text))
+
+        async def register(name: bytes, until: int) -> None:
+            await enter(finish, entry_key("publisher", "register", name.hex(), until))
+
+        await enter(begin[0], entry_key("publisher", "register", name.hex(), 1), *acks, begin[1], *ready)
+        network: Any = types.SimpleNamespace(ledger=ledger, register=register)
+        shelf = mock.Mock(consists=mock.AsyncMock(return_value=(9, {name: None})))
+        with self.assertRaisesRegex(Problem, "its time ended before"):
+            await Lister(network, mock.Mock(), shelf).extend(name, 5, charge)
+        self.assertEqual((ledger.epoch, ledger.blobs[name].until), (1, 6))  # it is registered, as a new blob
+        self.assertEqual(charge.set_to.call_args_list, [mock.call(9, 1), mock.call(0, 0)])
 
 
 class Trees(unittest.IsolatedAsyncioTestCase):

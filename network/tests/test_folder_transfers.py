@@ -5,6 +5,7 @@ import pathlib
 import socket
 import stat
 import tempfile
+import tracemalloc
 import unittest
 import unittest.mock
 from typing import Any, Optional, Union
@@ -62,6 +63,7 @@ class Places(unittest.TestCase):
 
     def test_names_that_a_disk_takes_for_one(self) -> None:
         pairs = [["a/b", "A/b"], ["a", "A"], ["\u00e5", "a\u030a"], ["stra\u00dfe", "STRASSE"], ["x/a", "X/b"]]
+        pairs += [["A", "a!", "a/x"], ["A/x/0", "A/x/1", "B", "a/y", "c"], ["x/y/A/1", "x/y/B", "x/y/a/0"]]
         with places.Root(str(self.root)) as root:
             for pair in pairs:
                 root.must_keep_apart(pair)  # this disk keeps them apart
@@ -70,6 +72,11 @@ class Places(unittest.TestCase):
                     with self.assertRaises(Failure):
                         root.must_keep_apart(pair)
                 root.must_keep_apart(["a/b", "a/c", "b"])
+                root.must_keep_apart(["A/x", "a!", "b/a", "c/A", "x/a/b", "y/A/c"])
+                tracemalloc.start()
+                self.addCleanup(tracemalloc.stop)
+                root.must_keep_apart([f"{number}{'/a' * 500}" for number in range(200)])
+                self.assertLess(tracemalloc.get_traced_memory()[1], 3_000_000)  # not for each folder of each path
             with unittest.mock.patch.object(places.os, "access", return_value=True):
                 self.assertTrue(root.folds())
             self.assertEqual([*self.root.iterdir()], [])
@@ -203,6 +210,22 @@ class Trees(unittest.IsolatedAsyncioTestCase):
         async with asyncio.timeout(60):
             self.assertIn("no such blob", await self.run_net("fetch", name, "--output", self.out, status=4))
         self.assertEqual(self.found(self.out), {})
+
+    async def test_a_file_that_changes_meanwhile_never_becomes_the_contents_of_an_equal_one(self) -> None:
+        self.write({"a": b"0", "b": b"0", "large": bytes(600_000)})
+        self.pause = 0.5  # while the large file is sent, all small ones are read already
+
+        async def change() -> None:
+            while not self.beside:
+                await asyncio.sleep(0.02)
+            self.write({"a": b"1"})
+
+        changing = asyncio.create_task(change())
+        said = await self.run_net("store", self.tree, "--epochs", "5", status=1)
+        await changing
+        self.assertIn("changed while it was stored: store the folder again", said)
+        self.assertEqual(len(self.puts), 1)
+        self.assertEqual([it.path for it in Manifest(self.files[await self.store()])], ["a", "b", "large"])
 
     async def test_a_terminal_shows_how_far_it_is(self) -> None:
         self.write(site())

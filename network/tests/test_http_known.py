@@ -13,6 +13,7 @@ from unittest import mock
 from folder_case import manifest_of
 from guard_case import GuardCase
 from walrus import client
+from walrus.network.follower import Refused
 from walrus.network.heads import Lengths
 from walrus.network.chunks import File
 from walrus.network.manifest import Place
@@ -143,6 +144,35 @@ class Known(GuardCase):
         alice = self.token("alice", blobs=1)
         found_ = [(await self.ask("POST", f"/v1/extend/{'0' * 64}?epochs=7", headers=alice))[0] for _ in range(2)]
         self.assertEqual((found_, len(asked)), ([200, 403], 1))
+
+    async def test_what_could_not_be_kept_for_longer_costs_nothing(self) -> None:
+        """Otherwise a client that asks again, as it is told to during a handover, uses up its share."""
+        await self.start()
+        alice, name = self.token("alice", bytes=9_000), "00" * 32
+        self.files = {name: manifest_of(Place("a", "a/b", 4, b"\1" * 32)), "01" * 32: b"data"}
+        size, left = len(self.files[name]) + 4, 0
+
+        async def register(name: bytes, until: int) -> None:
+            nonlocal left
+            if not left:
+                raise Refused("the epoch is changing: post it again after the change")
+            left -= 1
+
+        found = {bytes.fromhex(it): mock.Mock(until=3) for it in self.files}
+        self.enterContext(mock.patch.object(self.network, "register", register))
+        self.enterContext(mock.patch.object(self.network.ledger, "blobs", found))
+        self.enterContext(mock.patch.object(self.gateway.reader.lengths, "ask", mock.AsyncMock(return_value=4)))
+        self.enterContext(mock.patch.object(self.gateway.lister, "tell", lambda *_: {}))
+        for left, status, used in (
+            (0, 503, (0, 0)),
+            (1, 503, (size // 2, 1)),  # the file is kept for longer, and the manifest is not
+            (0, 503, (size // 2, 1)),
+            (2, 200, (size // 2 + size, 3)),
+        ):
+            self.assertEqual((await self.ask("POST", f"/v1/extend/{name}?epochs=7", headers=alice))[0], status)
+            shares = self.gateway.publisher.shares
+            assert shares
+            self.assertEqual(shares.used("alice", 0), used)
 
     async def test_a_folder_that_is_kept_for_longer_counts_with_all_bytes_of_its_files(self) -> None:
         """Whatever its manifest says, and a list of one piece."""

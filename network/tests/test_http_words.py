@@ -4,13 +4,16 @@ import hashlib
 import io
 import json
 import pathlib
+import secrets
 import sys
 import tempfile
+import time
 import unittest
+from concurrent import futures
 from unittest import mock
 
 import harness  # noqa: F401
-from walrus.network import commands, operators
+from walrus.network import commands, operators, tokens
 from walrus.network.exposure import Options
 from walrus.network.settings import Settings
 
@@ -75,6 +78,30 @@ class Words(unittest.IsolatedAsyncioTestCase):
         )
         self.assertEqual(known["alice"], told)
         self.assertNotIn(token, (self.folder / "tokens.json").read_text())
+
+    def test_anyone_may_store_only_if_that_is_said(self) -> None:
+        self.said("token", "anyone", "--folder", self.folder, status=1)
+        self.assertEqual([*self.folder.iterdir()], [])
+        self.said("token", "anyone", "--folder", self.folder, "--rights", "read,store")
+        self.said("token", "alice", "--folder", self.folder)
+        found = tokens.read_tokens(self.folder / "tokens.json")
+        self.assertEqual([found[it].rights for it in ("anyone", "alice")], [{"read", "store"}] * 2)
+        self.said("token", "anyone", "--folder", self.folder, "--remove")
+
+    def test_tokens_that_are_made_at_once_are_all_known(self) -> None:
+        path, drawn = self.folder / "tokens.json", secrets.token_urlsafe
+
+        def slow(size: int) -> str:
+            time.sleep(0.1)  # the file was read by then
+            return drawn(size)
+
+        tokens.change_token(path, "mallory", {"rights": ["read"]})
+        names = [f"user-{it}" for it in range(4)]
+        with mock.patch.object(secrets, "token_urlsafe", slow), futures.ThreadPoolExecutor() as pool:
+            made = [pool.submit(tokens.change_token, path, it, {"rights": ["read"]}) for it in names]
+            pool.submit(tokens.change_token, path, "mallory", None).result()
+        self.assertEqual(len({it.result() for it in made}), 4)
+        self.assertEqual({*tokens.read_tokens(path)}, {"anyone", *names})
 
 
 if __name__ == "__main__":

@@ -86,6 +86,42 @@ class Shares(unittest.IsolatedAsyncioTestCase):
         await self.end("small")
         self.assertEqual(self.memory.taken, 0)
 
+    async def test_reads_go_on_while_what_is_stored_hangs(self) -> None:
+        await self.begin("stored 1", 4)
+        await self.begin("stored 2", 4)
+        await self.begin("stored 3", 5)
+        await self.begin("read 1", 1, 1)
+        self.assertEqual(self.steps, ["stored 1", "stored 2"])  # for a moment nobody passes another one
+        async with asyncio.timeout(60):
+            while len(self.steps) < 4:
+                await asyncio.sleep(0.01)
+        await self.begin("read 2", 1, 1)
+        await self.begin("stored 4", 1)
+        self.assertEqual(self.steps[2:], ["read 1", "read 1 more"])
+        self.assertEqual(await self.end("read 1"), ["read 2", "read 2 more"])
+        self.assertEqual(await self.end("stored 1"), [])  # the third one waits for the second read alone
+        await self.begin("read 3", 1, 1)
+        self.assertEqual(len(self.steps), 6)  # and so there is room for another read, but it does not pass
+        self.assertEqual(await self.end("read 2"), ["stored 3"])
+        self.assertEqual(await self.end("stored 2"), ["read 3", "read 3 more", "stored 4"])
+        for name in ("stored 3", "stored 4", "read 3"):
+            await self.end(name)
+        self.assertEqual((self.memory.taken, self.memory.read, self.memory.grown), (0, 0, 0))
+
+    async def test_reads_do_not_pass_for_ever_what_wants_more_than_there_is(self) -> None:
+        with mock.patch.object(pieces, "PATIENCE", 0.0):
+            await self.begin("stored", 3)
+            await self.begin("read 1", 1, 1)
+            await self.begin("whole", 11)
+            await asyncio.sleep(0.02)
+            await self.begin("read 2", 1, 1)
+            self.assertEqual(await self.end("stored"), [])
+            await self.begin("read 3", 1, 1)
+            self.assertEqual(await self.end("read 1"), [])
+            self.assertEqual(await self.end("read 2"), ["whole"])
+            self.assertEqual(await self.end("whole"), ["read 3", "read 3 more"])
+            await self.end("read 3")
+
     async def test_who_wants_more_than_there_is_has_it_alone(self) -> None:
         await self.begin("a", 8, 9)
         await self.begin("b", 8, 9)
@@ -188,7 +224,8 @@ class Shares(unittest.IsolatedAsyncioTestCase):
 
         async with asyncio.timeout(300):  # for ever, if one waits for what nobody gives back
             await asyncio.gather(*(work() for _ in range(500)))
-        self.assertEqual((self.memory.taken, self.memory.grown, self.memory.growing), (0, 0, []))
+        self.assertEqual((self.memory.taken, self.memory.read, self.memory.grown), (0, 0, 0))
+        self.assertEqual(self.memory.growing, [])
         self.assertEqual(list(self.memory.waiting), [])
         self.assertIn(most, (9, 10))
 

@@ -36,7 +36,8 @@ class Packing(unittest.TestCase):
             data = b"other" if path in ("b", "z") else b"equal"
             folder.add_small(path, len(data), hashlib.sha256(data).digest(), path)
         folder.base.set_trace_callback(asked.append)
-        self.assertEqual([it for pack in folder.packs() for it in pack], [(0, 5, "c0"), (5, 5, "z")])
+        expected = [(hashlib.sha256(data).digest(), 5, at) for data, at in ((b"equal", "c0"), (b"other", "z"))]
+        self.assertEqual([it for pack in folder.packs() for it in pack], expected)
         self.assertLess(len(asked), 10)
         for number in range(2):
             folder.place(number, bytes([number]) * 32)

@@ -58,6 +58,16 @@ class Full(unittest.TestCase):
         self.assertEqual(unfinished.Upload(folder).names[count:], [b"a" * 32, b"b" * 32])
 
 
+class Homeless(unittest.TestCase):
+    def test_a_user_without_a_home_begins_each_upload_anew(self) -> None:
+        with mock.patch.dict(os.environ), mock.patch("pwd.getpwuid", side_effect=KeyError):
+            for name in ("XDG_STATE_HOME", "HOME"):
+                os.environ.pop(name, None)
+            known = resuming.Known(["url"])
+            known.keep("/v1/uploads/1")
+            self.assertEqual(known.find(), "")
+
+
 class Away(unittest.IsolatedAsyncioTestCase):
     """The command, which knows the URL of an upload that it began before."""
 

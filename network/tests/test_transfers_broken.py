@@ -8,6 +8,7 @@ import unittest
 
 from aiohttp import web
 from transfer_case import DRAWN, LIE, MARK, PIECE, TransferCase
+from walrus.network import transfers
 
 LENGTH = 268_435_456
 
@@ -94,6 +95,40 @@ class Broken(TransferCase):
         self.whole = True
         await self.run_net("fetch", name, "--output", self.out)
         self.assertEqual((self.out.read_bytes() == blob, self.left(), self.starts), (True, ["out"], [0]))
+
+
+class Breaking(TransferCase):
+    """A gateway that breaks each answer off after 1,000 bytes. It is away for a while after the first one, and answers
+    that it is not ready before the third."""
+
+    async def give(self, request: web.Request) -> web.StreamResponse:
+        data, start = self.files[request.match_info["name"]], int(request.headers.get("Range", "bytes=0-")[6:-1])
+        self.starts.append(start)
+        if len(self.starts) == 3:
+            return web.json_response({"error": {"text": "it has just started"}}, status=503)
+        response = web.StreamResponse(status=206 if start else 200, headers={"Content-Length": str(len(data) - start)})
+        await response.prepare(request)
+        await response.write(data[start : start + 1_000])  # noqa: E203
+        if not start:
+            self.returning = asyncio.create_task(self.go_away())
+        if start + 1_000 < len(data):
+            assert request.transport
+            request.transport.close()
+        return response
+
+    async def go_away(self) -> None:
+        assert self.site._server
+        self.site._server.close()  # nothing listens there any more
+        await asyncio.sleep(1.5)
+        await self.listen(self.port)
+
+    async def test_a_fetch_goes_on_as_long_as_more_comes(self) -> None:
+        blob = DRAWN.randbytes(transfers.TRIES * 1_000 + 1)
+        name = (await self.id(blob)).hex()
+        self.files = {name: blob}
+        await self.run_net("fetch", name, "--output", self.out)
+        self.assertEqual(self.out.read_bytes(), blob)
+        self.assertEqual(self.starts, [0, 1_000, 2_000, *range(2_000, len(blob), 1_000)])
 
 
 class Long(TransferCase):

@@ -11,7 +11,8 @@ from unittest import mock
 
 import harness  # noqa: F401  # which says where walrus is
 from walrus import audit, client
-from walrus.network import page
+from walrus.network import announcing, entries, page, transfers
+from walrus.network.blobs import Blob
 from walrus.network.client import Network
 from walrus.network.exposure import Options
 from walrus.network.ledger import OPERATOR, Entry, Ledger, entry_key
@@ -101,6 +102,26 @@ class Challenges(unittest.IsolatedAsyncioTestCase):
                 goes_on.release()
             await asyncio.gather(*tasks)
         self.assertEqual((len(running), self.memory.taken, self.watch.held["held"]), (12, 0, 12))
+
+    async def test_clients_read_the_longest_status(self) -> None:
+        """That of a handover to 1,000 other nodes, with names as long as an entry has room for."""
+        ledger, faults, each = Ledger(), entries.MOST_FAULTS, range(3 * entries.MOST_FAULTS + 1)
+        nodes = [[f"{epoch}{number:04}".rjust(15, "n") for number in each] for epoch in range(2)]
+        for epoch, names in enumerate(nodes):
+            self.assertTrue(
+                ledger.apply(Entry(epoch + 1, entry_key(OPERATOR, "begin", epoch, faults, ",".join(names))))
+            )
+        blob = Blob(9, "x").voted(entries.ACK, 0, frozenset(each), ledger.quorum)
+        for number in range(page.RECENT):
+            ledger.blobs[number.to_bytes(32, "big")] = blob
+        self.watch.network.ledger = ledger
+        self.enterContext(mock.patch.object(self.watch, "away", return_value={"stale": False, "place": 1}))
+        self.watch.faults = dict.fromkeys(sum(nodes, []), "")
+        told = {group: dict.fromkeys(names, 2.0**62) for group, names in page.FIGURE_NAMES.items()}
+        self.watch.figures = dict.fromkeys(self.watch.faults, told)
+        said = "; ".join(f"shard {it}: {'it is not reached within 10 seconds'.ljust(60)}" for it in each)
+        self.watch.announced = [{"blob": NAME.hex(), "invalid": False, "said": said}] * announcing.TOLD
+        self.assertLess(len(self.watch.status_text()), transfers.MOST_JSON)
 
     async def test_nodes_are_asked_while_a_blob_is_long_in_coming_and_whatever_it_comes_to(self) -> None:
         learned, goes_on = list[object](), asyncio.Event()

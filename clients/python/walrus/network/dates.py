@@ -45,5 +45,8 @@ def epochs_for(status: dict[str, Any], text: str) -> int:
     seconds, plan = seconds_of(text), status.get("calendar")
     if not plan:
         raise ValueError(f"the network has no calendar by which {text} could be counted: say a number of epochs")
-    until: int = plan["epoch"] + math.ceil((time.time() + seconds - plan["since"]) / plan["seconds"])
-    return max(1, until - int(status["epoch"]) - int(status["moving"]))
+    epoch = int(status["epoch"])
+    passed = time.time() - plan["since"]
+    passed = max(passed, (epoch - plan["epoch"]) * plan["seconds"])  # this clock may be behind, and the ledger is not
+    until: int = plan["epoch"] + math.ceil((passed + seconds) / plan["seconds"])
+    return max(1, until - epoch - int(status["moving"]))

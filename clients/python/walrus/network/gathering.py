@@ -179,7 +179,7 @@ class Upload(Storing):
         told = await self.store(self.kept(length, start))
         self.folder.add(path, length, bytes.fromhex(told["blobId"]))
 
-    async def store_pack(self, number: int, pack: list[tuple[int, int, Any]]) -> None:
+    async def store_pack(self, number: int, pack: list[tuple[bytes, int, Any]]) -> None:
         told = await self.store(once(await self.spool.read(*((length, at) for _, length, at in pack))))
         self.folder.place(number, bytes.fromhex(told["blobId"]))
 

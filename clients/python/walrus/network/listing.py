@@ -1,6 +1,7 @@
 """Lists blobs, and keeps files and folders for longer."""
 import asyncio
 import re
+from typing import Sequence
 
 from aiohttp import web
 
@@ -85,13 +86,28 @@ class Lister:
                 await asyncio.sleep(0)
         if short:
             charge.set_to(size, len(short))  # the file costs its bytes again, and these blobs
-        first = short[:1]  # if it lists the others, it is kept for longer only once they are
-        del short[:1]
-        while short:
-            await all_of(network.register(piece, until) for piece in short[:PAGE])
-            del short[:PAGE]
-        await all_of(network.register(piece, until) for piece in first)
+            await self.register(short, until, size, charge)
         return self.tell(name, end)
+
+    async def register(self, short: Sequence[bytes], until: int, size: int, charge: Charge) -> None:
+        """Registers these blobs of a file of `size` bytes until an epoch, the first one last: if it lists the others,
+        it is kept for longer only once they are. If that fails, gives back the charge for what is not kept."""
+        done = 0
+
+        async def register(piece: bytes) -> None:
+            nonlocal done
+            await self.network.register(piece, until)
+            if not self.network.ledger.certificate(piece):  # its time was over, so it was registered as a new blob
+                raise Problem(404, "its time ended before it was kept for longer: store it again")
+            done += 1
+
+        try:
+            for place in range(1, len(short), PAGE):
+                await all_of(map(register, short[place : place + PAGE]))  # noqa: E203
+            await register(short[0])
+        except BaseException:
+            charge.set_to(size * done // len(short), done)
+            raise
 
 
 async def ending(network: Network, after: bytes, last: int) -> list[bytes]:

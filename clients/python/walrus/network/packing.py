@@ -88,15 +88,15 @@ class Folder:
         """Whether a small file with the same contents was added before."""
         return bool(self.base.execute("SELECT 1 FROM contents WHERE digest = ?", (digest,)).fetchone())
 
-    def packs(self) -> Iterator[list[tuple[int, int, object]]]:
-        """Yields for each pack the offset, length and `at` of each file in it. Packs are numbered from 0."""
-        pack, size, number = list[tuple[int, int, object]](), 0, 0
+    def packs(self) -> Iterator[list[tuple[bytes, int, object]]]:
+        """Yields for each pack the digest, length and `at` of each file in it. Packs are numbered from 0."""
+        pack, size, number = list[tuple[bytes, int, object]](), 0, 0
         for digest, length, at in self.base.execute(SMALLS):
             if size + length > PACK or len(pack) == MANY:
                 yield pack
                 pack, size, number = [], 0, number + 1
             self.base.execute("INSERT INTO packed VALUES (?, ?, ?)", (digest, number, size))
-            pack.append((size, length, at))
+            pack.append((digest, length, at))
             size += length
             if ends_pack(digest, length):
                 yield pack

@@ -23,7 +23,7 @@ DISK = concurrent.futures.ThreadPoolExecutor(THREADS, "spool")  # in asyncio's o
 LEAST, LATER = 1_048_576, 3.25  # bytes that any piece takes; further memory to decode one, in multiples of its length
 TIMES, MORE = 8, 11  # memory to encode a piece, in multiples of its length, at f = 1 and above
 FULL = "not all of it is stored: the gateway has too little room on its disk for it; send it again later"
-PATIENCE = 1.0  # seconds for which a request for memory waits before late tasks are cancelled
+PATIENCE = 1.0  # seconds for which a request for memory waits before reads may pass it, and late tasks are cancelled
 Result = TypeVar("Result")
 
 
@@ -171,15 +171,16 @@ def let_go(blob: bytes, start: int, end: int) -> None:
 
 
 class Share:
-    """A number of bytes that was taken from a `Memory`."""
+    """A number of bytes that was taken from a `Memory`, by a read if more will be asked for."""
 
-    def __init__(self, memory: "Memory", size: int):
-        self.memory, self.size = memory, size
+    def __init__(self, memory: "Memory", size: int, reads: bool):
+        self.memory, self.size, self.reads = memory, size, reads
 
     def shrink(self, size: int) -> None:
         """Gives back what exceeds `size` bytes."""
         if size < self.size:
             self.memory.taken -= self.size - size
+            self.memory.read -= (self.size - size) * self.reads
             self.size = size
             self.memory.serve()
 
@@ -202,7 +203,8 @@ class Wish:
     size: int
     later: int
     share: Share
-    owner: str = dataclasses.field(default_factory=ASKING.get)
+    is_late: bool = False
+    owner: str = ""
     granted: "asyncio.Future[None]" = dataclasses.field(default_factory=lambda: asyncio.Future())
 
 
@@ -210,20 +212,26 @@ class Memory:
     """The memory, in bytes, for all that a gateway does. Requests that find too little wait; clients take turns.
 
     A request that will want more begins only if that would be free too once others have given back their later parts,
-    and none begins while one waits for more. So one that waits for more always gets it once the others have ended."""
+    and none begins while one waits for more. So one that waits for more always gets it once the others have ended.
+    Reads that fit pass the first in line if it has waited long, and would not fit beside all that is stored."""
 
     def __init__(self, size: int):
-        self.size, self.taken, self.grown = size, 0, 0  # bytes in all, taken, and taken as a later part (`Share.more`)
+        self.size, self.taken, self.read, self.grown = size, 0, 0, 0  # bytes in all, taken, by reads, by `Share.more`
         self.waiting, self.growing = Line[Wish](), list[Wish]()
         self.late: "set[asyncio.Task[Any]]" = set()  # tasks that are cancelled if others want the memory they hold
 
-    def end_late(self) -> None:
+    def end_late(self, wish: Wish) -> None:
+        wish.is_late = True
+        self.serve()
         for task in self.late:
             task.cancel()
 
     def is_short(self, size: int) -> bool:
         """Whether a request for `size` bytes would have to wait."""
         return bool(self.waiting or self.growing) or self.taken + size > self.size
+
+    def fits(self, wish: Wish, taken: int, grown: int) -> bool:
+        return not taken or taken + wish.size + max(0, wish.later - grown) <= self.size
 
     def serve(self) -> None:
         """Grants the requests for which there is room now; one is granted in any case if nothing else runs."""
@@ -234,13 +242,16 @@ class Memory:
         if self.growing and self.taken == sum(it.share.size for it in self.growing):  # all that have memory want more
             self.grant(self.growing.pop(0))
         while self.waiting and not self.growing:
-            wish = self.waiting.first()
-            if self.taken and self.taken + wish.size + max(0, wish.later - self.grown) > self.size:
+            wishes = [next(iter(it)) for it in self.waiting.values()]
+            gives_way = wishes[0].is_late and not self.fits(wishes[0], self.taken - self.read, 0)
+            wishes = [it for it in wishes if it.later] if gives_way else wishes[:1]
+            if not (able := [it for it in wishes if self.fits(it, self.taken, self.grown)]):
                 return
+            self.waiting.move_to_end(able[0].owner, last=False)
             self.grant(self.waiting.take())
 
     def grant(self, wish: Wish) -> None:
-        self.taken += wish.size
+        self.taken, self.read = self.taken + wish.size, self.read + wish.size * wish.share.reads
         self.grown += wish.size if wish.share.size else 0
         wish.share.size += wish.size
         wish.granted.set_result(None)
@@ -252,7 +263,7 @@ class Memory:
         else:
             self.waiting.add(wish.owner, wish)
         self.serve()
-        ending = asyncio.get_running_loop().call_later(PATIENCE, self.end_late)
+        ending = asyncio.get_running_loop().call_later(PATIENCE, self.end_late, wish)
         try:
             await asyncio.shield(wish.granted)
         except asyncio.CancelledError:
@@ -271,8 +282,8 @@ class Memory:
     @contextlib.asynccontextmanager
     async def share(self, size: int, later: int = 0) -> AsyncIterator[Share]:
         """Holds `size` bytes while the context runs, or fewer after `shrink`; `later` is what `more` will take."""
-        share = Share(self, 0)
-        await self.wait(Wish(size, later, share))
+        share = Share(self, 0, later > 0)
+        await self.wait(Wish(size, later, share, owner=ASKING.get() + " reads" * share.reads))
         try:
             yield share
         finally:

@@ -1,6 +1,7 @@
 """Files below a folder of this machine, at paths that somebody else chose: no link is followed, and nothing is written
 outside of the folder."""
 import contextlib
+import itertools
 import os
 import secrets
 import stat
@@ -83,13 +84,14 @@ class Root(contextlib.AbstractContextManager["Root"]):
         """Raises `Failure` if the file system takes two of these paths, or two of their folders, for one."""
         if not self.folds():
             return
-        known = dict[str, str]()
-        for path in paths:
-            parts = path.split("/")
-            for front in ("/".join(parts[:end]) for end in range(1, len(parts) + 1)):
-                if known.setdefault(folded(front), front) != front:
-                    pair = f"{front!r} and {known[folded(front)]!r}"
+        ordered = sorted(paths, key=lambda it: folded(it).replace("/", "\0"))  # those in one folder are side by side
+        for one, other in itertools.pairwise(ordered):
+            for name, second in zip(one.split("/"), other.split("/")):
+                if name != second and folded(name) == folded(second):
+                    pair = f"{name!r} and {second!r} of {one!r} and {other!r}"
                     raise Failure(f"{pair} are one name in {self.path}: fetch the folder to another file system", 1)
+                if name != second:
+                    break
 
 
 def folded(path: str) -> str:

@@ -28,7 +28,10 @@ class Known:
     """The file with the URLs of this user's unfinished uploads. Without it each command begins anew."""
 
     def __init__(self, key: list[Any]):
-        home = os.environ.get("XDG_STATE_HOME") or str(pathlib.Path.home() / ".local" / "state")
+        try:
+            home = os.environ.get("XDG_STATE_HOME") or str(pathlib.Path.home() / ".local" / "state")
+        except RuntimeError:
+            home = os.devnull  # this user has no home, and below this no file can be made
         self.path, self.key = pathlib.Path(home, "walrus", "uploads.json"), name_of(key)
 
     def read(self) -> dict[str, Any]:

@@ -1,6 +1,8 @@
 """Tokens of a gateway: each has rights, to read or to store, and bounds. The file has only their SHA-256."""
 import argparse
+import contextlib
 import dataclasses
+import fcntl
 import hashlib
 import hmac
 import json
@@ -20,7 +22,6 @@ TEXT = f"make a token, in place of an older one of this name; the name {ANYONE} 
 WORDS = {
     "folder": ("walrus-network", "the network's folder, in which tokens.json is changed"),
     "tokens": ("", "another file of tokens"),
-    "rights": (",".join(RIGHTS), "rights, separated by commas, or none"),
     "remove": (False, "remove the token"),
 }
 MEANT = "bytes that it may store in an epoch", "blobs that it may store in an epoch; a long file has several"
@@ -110,7 +111,18 @@ def fault_of(path: pathlib.Path, default: pathlib.Path) -> str:
 
 def change_token(path: pathlib.Path, name: str, told: Optional[dict[str, Any]]) -> str:
     """Makes a token of a name in a file, in place of an older one, or removes it if `told` is None. Returns the text of
-    the token, which is stored nowhere. A new file lets anyone read, as without a file."""
+    the token, which is stored nowhere. A new file lets anyone read, as without a file. Commands at once take turns."""
+    folder = os.open(path.resolve().parent, os.O_RDONLY | os.O_DIRECTORY | os.O_CLOEXEC)
+    try:
+        with contextlib.suppress(OSError):  # a disk without locks
+            fcntl.flock(folder, fcntl.LOCK_EX)
+        return changed(path, name, told)
+    finally:
+        os.close(folder)
+
+
+def changed(path: pathlib.Path, name: str, told: Optional[dict[str, Any]]) -> str:
+    """Does the work of `change_token` once it is this command's turn."""
     known: dict[str, Any] = json.loads(path.read_text()) if path.exists() else {ANYONE: {"rights": [READ]}}
     made = secrets.token_urlsafe(32) if told is not None and name != ANYONE else ""
     if told is None and known.pop(name, None) is None:
@@ -124,6 +136,8 @@ def change_token(path: pathlib.Path, name: str, told: Optional[dict[str, Any]]) 
 
 
 def add_words(parser: argparse.ArgumentParser) -> None:
+    both = ",".join(RIGHTS)
+    parser.add_argument("--rights", help=f"rights, separated by commas, or none; {both}, but for {ANYONE} say which")
     for name, text in zip(BOUNDS, (*MEANT, "epochs for which it may keep a file")):
         parser.add_argument(f"--{name}", type=int, metavar="N", help=f"{text}; without it, any number")
 
@@ -131,9 +145,12 @@ def add_words(parser: argparse.ArgumentParser) -> None:
 def run(words: argparse.Namespace) -> None:
     """Makes or removes a token as the command line says, and prints a new one; it is shown only this once."""
     path = pathlib.Path(words.tokens or pathlib.Path(words.folder, "tokens.json"))
+    if words.rights is None and words.name == ANYONE and not words.remove:
+        raise ValueError(f"say what clients without a token may do: --rights {READ}, or {','.join(RIGHTS)}, or none")
+    rights = rights_of(",".join(RIGHTS) if words.rights is None else words.rights)
     bounds = {it: getattr(words, it) for it in BOUNDS if getattr(words, it) is not None}
     with readable():  # the file has only digests, so others may read it
-        made = change_token(path, words.name, None if words.remove else {"rights": rights_of(words.rights), **bounds})
+        made = change_token(path, words.name, None if words.remove else {"rights": rights, **bounds})
     if words.json:
         print(json.dumps({"name": words.name, "token": made or None, "removed": words.remove}))
     elif made:

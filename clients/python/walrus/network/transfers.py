@@ -20,8 +20,8 @@ from .manifest import clean
 
 PART, TRIES = 1_048_576, 5
 PATIENCE = 180  # seconds for a gateway to read a part of what is sent, or to answer
-MOST_JSON = 4_194_304  # most bytes of a gateway's JSON: a page of a list has 170 KB, the largest status about 1 MB
-BY_STATUS = {404: 4, 410: 3, 503: 4}
+MOST_JSON = 8_388_608  # most bytes of a gateway's JSON: a page of a list has 170 KB, the largest status 4.4 MB
+BY_STATUS, AWAY = {404: 4, 410: 3, 503: 4}, (502, 503, 504)  # exit statuses; what a gateway that restarts may answer
 
 
 class Failure(Exception):
@@ -211,8 +211,9 @@ async def receive(
     most: int = LONGEST,
 ) -> int:
     """Writes what a gateway gives for a name from byte `done` on, and goes on after a broken connection. Returns the
-    length of the whole file; raises `Failure` if it has more than `most` bytes, as a gateway may send without end."""
-    tries = 0
+    length of the whole file. Raises `Failure` after `TRIES` breaks without progress, and if it has more than `most`
+    bytes, as a gateway may send without end."""
+    tries, start, furthest = 0, done, done
     with contextlib.nullcontext(shared) if shared else Bar(name[:16]) as bar:
         bar.add(done)
         while True:
@@ -220,6 +221,8 @@ async def receive(
                 async with session.get(f"/v1/blobs/{name}", headers={"Range": f"bytes={done}-"} if done else {}) as it:
                     if it.status == 416 and done:  # nothing follows; the identifier shows whether this is all of it
                         return done
+                    if it.status in AWAY and done > start:  # it gave a part of the file, and may give the rest soon
+                        raise aiohttp.ClientConnectionError(await reason_of(it))
                     await check(it)
                     again = done if it.status == 200 else 0  # bytes that come once more if the range is ignored
                     bar.size = bar.size if shared else done - again + (it.content_length or 0)
@@ -231,8 +234,11 @@ async def receive(
                         await naming.add(part)
                         bar.add(len(part))
                     return done
-            except (aiohttp.ClientPayloadError, aiohttp.ServerDisconnectedError) as fault:
-                tries += 1
+            except (aiohttp.ClientConnectionError, aiohttp.ClientPayloadError) as fault:
+                tries, furthest = (1 if done > furthest else tries + 1), max(furthest, done)
+                if tries == TRIES and isinstance(fault, aiohttp.ClientConnectorError):
+                    raise  # the gateway is gone
                 if tries == TRIES:
-                    raise Failure(f"the connection broke {TRIES} times, last at byte {done}: try later", 4) from fault
-                await asyncio.sleep(tries)
+                    text = f"{fault}: the connection broke {TRIES} times, last at byte {done}: try later"
+                    raise Failure(text, 4) from fault
+                await asyncio.sleep(2**tries / 2)

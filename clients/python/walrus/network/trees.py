@@ -106,12 +106,12 @@ class Sending:
         name, _ = await self.send(parts, shown(path))
         self.folder.add(path, size, name)
 
-    async def send_pack(self, number: int, pack: list[tuple[int, int, Any]]) -> None:
+    async def send_pack(self, number: int, pack: list[tuple[bytes, int, Any]]) -> None:
         data = b""
-        for _, length, place in pack:
+        for digest, _, place in pack:
             with open(place, "rb") as file:
                 found = file.read(SMALL + 1)
-            if len(found) != length:
+            if hashlib.sha256(found).digest() != digest:
                 raise Failure(f"{shown(place)} changed while it was stored: store the folder again", 1)
             data += found
         name, _ = await self.send(lambda: iter([data]), "a pack of small files")
