@@ -197,8 +197,7 @@ class Share:
 
 @dataclasses.dataclass(eq=False)
 class Wish:
-    """A request for `size` bytes of memory, after which `later` more will be asked for. If its share already has some,
-    it is that second request."""
+    """A request for `size` bytes, before one for `later` more. If its share has some already, it is that second one."""
 
     size: int
     later: int
