@@ -182,6 +182,7 @@ class Memory(Etcd):
         self.hear = list[Callable[[bytes], None]]()  # watchers of the head
         self.all = list[str]()  # everything that was ever appended
         self.used = 0  # bytes, of its quota
+        self.leading = True  # whether the member that a recorder asks leads etcd
 
     async def fails(self, when: str, call: int = 0) -> int:
         """Carries out the plan for a call (a new one if no number is given); returns the call's number."""
@@ -263,6 +264,9 @@ class Memory(Etcd):
 
     async def sizes(self, seconds: float = 10) -> tuple[int, int]:
         return self.used, self.used
+
+    async def leads(self) -> bool:
+        return self.leading
 
     async def watch(self, hear: Callable[[bytes], None]) -> None:
         self.hear.append(hear)

@@ -88,7 +88,10 @@ class Waits(unittest.IsolatedAsyncioTestCase):
         self.assertFalse(await self.crowded(first, 740))
         self.assertFalse(await self.crowded(first, 760))  # too few have come since
         await self.post(*(f"{NODES[3]}/attest/2/{number:064x}" for number in range(50)))
-        self.assertTrue(await self.crowded(first, 760))
+        self.memory.leading = False
+        self.assertFalse(await self.crowded(first, 760))  # it is left to the recorder beside etcd's leader
+        self.keeper.crowded[first] -= keeping.GRACE
+        self.assertTrue(await self.crowded(first, 760))  # which seems to have ended
         last = self.memory.marked[-1]
         self.assertEqual((last.epoch, last.place, self.memory.kept), (1, self.recorder.chain.place, {}))
         await self.post(*turn(2)[2:4])
@@ -114,8 +117,9 @@ class Waits(unittest.IsolatedAsyncioTestCase):
 
 
 class Told(LedgerCase):
-    async def test_etcd_tells_its_quota(self) -> None:
+    async def test_etcd_tells_its_quota_and_who_leads(self) -> None:
         self.assertEqual(await self.recorders[0].etcd.quota(), 2**30)
+        self.assertTrue(await self.recorders[0].etcd.leads())
 
 
 class Addresses(unittest.TestCase):

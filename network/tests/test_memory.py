@@ -108,6 +108,31 @@ class Shares(unittest.IsolatedAsyncioTestCase):
             await self.end(name)
         self.assertEqual((self.memory.taken, self.memory.read, self.memory.grown), (0, 0, 0))
 
+    async def test_reads_go_on_while_a_large_one_waits_for_more_beside_what_hangs(self) -> None:
+        share = self.memory.share(1, 6)
+        large = await share.__aenter__()
+        await self.begin("stored 1", 3)
+        await self.begin("stored 2", 3)
+        with mock.patch.object(pieces, "PATIENCE", 0.05):
+            more = large.more(6)
+            growing = asyncio.create_task(more.__aenter__())
+            await settled()
+            await self.begin("read 1", 1, 1)
+            await self.begin("stored 3", 1)
+            self.assertEqual(self.steps, ["stored 1", "stored 2"])  # for a moment nobody begins
+            await asyncio.sleep(0.2)
+        self.assertEqual(self.steps[2:], ["read 1", "read 1 more"])
+        self.assertEqual(await self.end("stored 1"), [])  # the large one waits for the other read alone
+        await self.begin("read 2", 1, 1)
+        self.assertEqual(await self.end("read 1"), [])
+        await growing
+        await more.__aexit__(None, None, None)
+        await share.__aexit__(None, None, None)
+        await settled()
+        for name in ("stored 2", "stored 3", "read 2"):
+            await self.end(name)
+        self.assertEqual((self.memory.taken, self.memory.read, self.memory.grown), (0, 0, 0))
+
     async def test_reads_do_not_pass_for_ever_what_wants_more_than_there_is(self) -> None:
         with mock.patch.object(pieces, "PATIENCE", 0.0):
             await self.begin("stored", 3)

@@ -228,7 +228,15 @@ class Transfers(TransferCase):
     async def test_a_list_that_does_not_go_forward_ends(self) -> None:
         low, high = "1" * 64, "2" * 64
         blob = {"blobId": high, "endEpoch": 5, "certificate": None, "invalid": False}
-        ways: list[list[Any]] = [[high, None], [high, high], [high, low], [low, "3" * 63], [""], [7]]
+        ways: list[list[Any]] = [
+            [high, None],
+            [high, high],
+            [high, low],
+            [low, "3" * 63],
+            [""],
+            [7],
+            [int("1" * 64)] * 2,
+        ]
         for following in ways:
             lies = following[-1] is not None
             self.pages, self.asked = [{"epoch": 0, "blobs": [blob], "next": it} for it in following], []

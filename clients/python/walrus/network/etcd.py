@@ -237,6 +237,11 @@ class Etcd:
         told = await self.call("maintenance/status", {}, seconds)
         return int(told.get("dbSize", 0)), int(told.get("dbSizeInUse", 0))
 
+    async def leads(self) -> bool:
+        """Whether the recorder's member leads etcd."""
+        told = await self.call("maintenance/status", {})
+        return bool(told.get("leader") == told["header"]["member_id"])
+
     async def defragment(self) -> None:
         """Defragments the recorder's member, which answers nobody meanwhile, unless it is another member's turn. If the
         call is not answered in time, the member may still be defragmenting, so it keeps its turn until that expires.

@@ -13,7 +13,7 @@ from typing import Optional
 
 from .checkpoint import Mark
 from .etcd import Failed
-from .recorder import Recorder
+from .recorder import GRACE, Recorder
 
 PAUSE, IDLE = 5.0, 30.0  # seconds between two looks; seconds without a new entry until etcd may be defragmented
 TRIES = 10  # to put a piece of a checkpoint
@@ -29,6 +29,7 @@ class Keeper:
         self.recorder, self.etcd, self.patience = recorder, recorder.etcd, patience
         self.said, self.dropped = "", 0  # the last failure; the place up to which this recorder has dropped everything
         self.seen = dict[int, float]()  # when the checkpoint of a place was first seen, by the monotonic clock
+        self.crowded = dict[int, float]()  # when etcd was first nearly full after the checkpoint of a place
 
     async def run(self) -> None:
         while True:
@@ -65,11 +66,15 @@ class Keeper:
 
     async def is_due(self, mark: Optional[Mark]) -> bool:
         """Whether the next checkpoint is to be written: the epoch has none yet, or so much was appended since its last
-        one that etcd is nearly full. Otherwise nothing could be appended any more, not even what ends the epoch."""
+        one that etcd is nearly full. Otherwise nothing could be appended any more, not even what ends the epoch. For
+        `GRACE` seconds one recorder alone writes: etcd may have no room for the checkpoints of all."""
         recorder, place, epoch = self.recorder, mark.place if mark else 0, mark.epoch if mark else 0
-        if recorder.ledger.epoch > epoch and time.monotonic() > recorder.turned:
-            return True
-        return recorder.chain.place - place > LEAST + len(recorder.ledger.blobs) // 4 and await self.is_full()
+        if recorder.ledger.epoch > epoch:
+            return time.monotonic() > recorder.turned
+        if recorder.chain.place - place <= LEAST + len(recorder.ledger.blobs) // 4 or not await self.is_full():
+            return False
+        since = self.crowded.setdefault(place, time.monotonic())
+        return await self.etcd.leads() or time.monotonic() > since + GRACE
 
     def is_over(self, mark: Mark) -> bool:
         """Whether all nodes of both committees have posted that they are past a checkpoint's epoch, which this recorder

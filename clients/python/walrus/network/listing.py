@@ -9,6 +9,7 @@ from .blobs import ending_of
 from .client import Network
 from .dates import date_of
 from .entries import LAST_UNTIL
+from .follower import Refused
 from .groups import all_of
 from .problems import FRESH, JSON, Problem, as_line
 from .reading import Reader, send_text
@@ -85,21 +86,26 @@ class Lister:
             if number % TOGETHER == 0:
                 await asyncio.sleep(0)
         if short:
-            charge.set_to(size, len(short))  # the file costs its bytes again, and these blobs
+            size = size * len(short) // len(names)  # its bytes cost again, in proportion, and these blobs
+            charge.set_to(size, len(short))
             await self.register(short, until, size, charge)
         return self.tell(name, end)
 
     async def register(self, short: Sequence[bytes], until: int, size: int, charge: Charge) -> None:
-        """Registers these blobs of a file of `size` bytes until an epoch, the first one last: if it lists the others,
-        it is kept for longer only once they are. If that fails, gives back the charge for what is not kept."""
+        """Registers these blobs, which have `size` bytes, until an epoch, the first one last: if it lists the others,
+        it is kept for longer only once they are. If that fails, gives back the charge for what is surely not kept."""
         done = 0
 
         async def register(piece: bytes) -> None:
             nonlocal done
-            await self.network.register(piece, until)
-            if not self.network.ledger.certificate(piece):  # its time was over, so it was registered as a new blob
-                raise Problem(404, "its time ended before it was kept for longer: store it again")
-            done += 1
+            done += 1  # from now on it may be kept, even if no answer comes
+            try:
+                await self.network.register(piece, until)
+                if not self.network.ledger.certificate(piece):  # its time was over: it was registered as a new blob
+                    raise Problem(404, "its time ended before it was kept for longer: store it again")
+            except (Refused, Problem):
+                done -= 1
+                raise
 
         try:
             for place in range(1, len(short), PAGE):

@@ -212,7 +212,7 @@ class Memory:
 
     A request that will want more begins only if that would be free too once others have given back their later parts,
     and none begins while one waits for more. So one that waits for more always gets it once the others have ended.
-    Reads that fit pass the first in line if it has waited long, and would not fit beside all that is stored."""
+    Reads that fit pass either if it has waited long, and would not fit beside all that is stored."""
 
     def __init__(self, size: int):
         self.size, self.taken, self.read, self.grown = size, 0, 0, 0  # bytes in all, taken, by reads, by `Share.more`
@@ -229,9 +229,6 @@ class Memory:
         """Whether a request for `size` bytes would have to wait."""
         return bool(self.waiting or self.growing) or self.taken + size > self.size
 
-    def fits(self, wish: Wish, taken: int, grown: int) -> bool:
-        return not taken or taken + wish.size + max(0, wish.later - grown) <= self.size
-
     def serve(self) -> None:
         """Grants the requests for which there is room now; one is granted in any case if nothing else runs."""
         for wish in [*self.growing]:
@@ -240,11 +237,14 @@ class Memory:
                 self.grant(wish)
         if self.growing and self.taken == sum(it.share.size for it in self.growing):  # all that have memory want more
             self.grant(self.growing.pop(0))
-        while self.waiting and not self.growing:
-            wishes = [next(iter(it)) for it in self.waiting.values()]
-            gives_way = wishes[0].is_late and not self.fits(wishes[0], self.taken - self.read, 0)
-            wishes = [it for it in wishes if it.later] if gives_way else wishes[:1]
-            if not (able := [it for it in wishes if self.fits(it, self.taken, self.grown)]):
+        while self.waiting:
+            wishes, room = [next(iter(it)) for it in self.waiting.values()], self.size - self.taken
+            head = (self.growing or wishes)[0]
+            beside = max(0, self.size - head.share.size - head.size - head.later)  # bytes that may be stored beside it
+            gives_way = head.is_late and self.taken - self.read > beside
+            wishes = [it for it in wishes if it.later] if gives_way else wishes[: not self.growing]
+            able = [it for it in wishes if not self.taken or it.size + max(0, it.later - self.grown) <= room]
+            if not able:
                 return
             self.waiting.move_to_end(able[0].owner, last=False)
             self.grant(self.waiting.take())
@@ -296,4 +296,4 @@ def need_of(size: int, faults: int) -> int:
 
 def reading_needs(size: int) -> tuple[int, int]:
     """Returns the memory that a piece takes while it is fetched, and what it takes in addition while it is decoded."""
-    return LEAST + size, int(LATER * size)
+    return LEAST + size, max(1, int(LATER * size))  # `Memory` takes what has no later part for no read

@@ -213,12 +213,12 @@ async def serve(settings: RecorderSettings) -> int:
     """Runs a recorder until a signal ends it, or it must stop; returns its exit status."""
     try:
         state = State.open(settings.state)
-    except OSError as fault:
+        loaded = [certificates.read(pathlib.Path(it)) for it in (settings.certificate, settings.etcd_certificate)]
+    except (OSError, ValueError) as fault:
         print(f"{settings.name} cannot start: {fault}", file=sys.stderr, flush=True)
         return 1
     recorder = Recorder(etcd_of(settings), state)
     service, keeper = Service(recorder, settings), Keeper(recorder, settings.patience)
-    loaded = [certificates.read(pathlib.Path(it)) for it in (settings.certificate, settings.etcd_certificate)]
     watching = [certificates.watch(settings.name, it) for it in loaded]
     tasks = [asyncio.create_task(it) for it in (recorder.run(), keeper.run(), ending().wait(), *watching)]
     try:

@@ -189,7 +189,8 @@ async def serve(settings: RecorderSettings, seconds: float) -> int:
             elif name not in service.tails:
                 first = service.short.get(name)
                 print(f"{name} {f'has kept nothing before place {first}' if first else 'was silent at the end'}")
-        print(f"{count or 0} entries are back; the ledger ends at place {recorder.chain.place}", flush=True)
+        text = "a signal ended this" if count is None else f"{count} entries are back"
+        print(f"{text}; the ledger ends at place {recorder.chain.place}", flush=True)
         if not service.is_all() and service.enough(later := service.later()):
             print(OLD.format(", ".join(later)), file=sys.stderr)
         elif not count and (strangers := service.unbelieved()):

@@ -69,7 +69,7 @@ class Tokens:
 
     def __init__(self, path: pathlib.Path, default: pathlib.Path, used: pathlib.Path):
         self.path, self.known, self.state = path, None, ()  # type: pathlib.Path, Optional[dict[str, Token]], object
-        self.used = used
+        self.used = used if path.resolve() == default.resolve() else None  # another file must be there in any case
         if path.exists():
             self.known, self.state = read_tokens(path), self.look()
             self.mark()
@@ -77,9 +77,9 @@ class Tokens:
             raise ValueError(fault)
 
     def mark(self) -> None:
-        """Makes the file of what tokens have used, empty, unless it is there."""
+        """Makes the file of what tokens have used, empty, unless it is there or not needed to notice a loss."""
         try:
-            if not self.used.exists():
+            if self.used and not self.used.exists():
                 self.used.touch()
         except OSError as fault:
             print(f"{fault}: if {self.path} is lost, the next start does not notice", file=sys.stderr, flush=True)
@@ -120,7 +120,8 @@ def fault_of(path: pathlib.Path, default: pathlib.Path, used: pathlib.Path) -> s
     if os.path.exists(path) or may_lack and not os.path.exists(used):
         return ""
     said = f"{path} is not there" + (f", but {used} is, so there have been tokens" if may_lack else "")
-    mend = f"bring it back, or make a first token (walrus-net token NAME --tokens {path})"
+    mend = f"bring it back, or make a first token (walrus-net token NAME --tokens {path}), after which anyone may read"
+    mend += f" until walrus-net token {ANYONE} --rights none --tokens {path}"
     return f"tokens: {said}: {mend}" + (f"; to have none again, remove {used}" if may_lack else "")
 
 

@@ -83,8 +83,8 @@ async def listed(session: aiohttp.ClientSession, within: int) -> AsyncIterator[d
         told = await ask(session, "GET", "/v1/blobs", params={"within": within, "after": after})
         for blob in told["blobs"]:
             yield blob
-        following = told["next"]
-        if following is not None and not (re.fullmatch("[0-9a-f]{64}", str(following)) and following > after):
+        following = told["next"] if told["next"] is None else str(told["next"])
+        if following is not None and not (re.fullmatch("[0-9a-f]{64}", following) and following > after):
             place = f"after {after}" if after else "at its beginning"
             raise Failure(f"the list does not go forward {place}, and would never end: this gateway lies", 1)
         after = following
@@ -226,7 +226,7 @@ async def receive(
                 async with session.get(f"/v1/blobs/{name}", headers={"Range": f"bytes={done}-"} if done else {}) as it:
                     if it.status == 416 and done:  # nothing follows; the identifier shows whether this is all of it
                         return done
-                    if it.status in AWAY and done > start:  # it gave a part of the file, and may give the rest soon
+                    if it.status in AWAY and (shared or done > start):  # it gave a part, and may give the rest soon
                         raise aiohttp.ClientConnectionError(await reason_of(it))
                     await check(it)
                     again = done if it.status == 200 else 0  # bytes that come once more if the range is ignored
@@ -241,9 +241,11 @@ async def receive(
                     return done
             except (aiohttp.ClientConnectionError, aiohttp.ClientPayloadError) as fault:
                 tries, furthest = (1 if done > furthest else tries + 1), max(furthest, done)
+                if isinstance(fault, TimeoutError):
+                    raise  # the gateway hangs
                 if tries == TRIES and isinstance(fault, aiohttp.ClientConnectorError):
-                    raise  # the gateway is gone
+                    raise  # it is gone
                 if tries == TRIES:
-                    text = f"{fault}: the connection broke {TRIES} times, last at byte {done}: try later"
+                    text = f"{fault}: {TRIES} attempts in a row came no further than byte {done}: try later"
                     raise Failure(text, 4) from fault
                 await asyncio.sleep(2**tries / 2)
