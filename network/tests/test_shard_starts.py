@@ -97,7 +97,7 @@ class Apart(ShardCase):
         for is_there in (False, False, True, True):  # and then as a mount point
             if is_there:
                 folder.mkdir(exist_ok=True)
-            with self.assertRaisesRegex(OSError, "is missing or empty: copy or mount it"):
+            with self.assertRaisesRegex(OSError, "is not complete: stop the node, and copy or mount"):
                 Store(self.path)
             self.assertEqual(folder.exists(), is_there)
         folder.rmdir()

@@ -78,11 +78,14 @@ class Files:
 
     def sweep(self, digits: str, named: set[str]) -> tuple[int, set[str]]:
         """Remove files that nothing names from the folder for two digits; return how many they were, and the names
-        without a file. Files that this process wrote stay, as it names or removes them itself."""
+        without a file: all of them if the folder cannot be read, as none of its files can be then. Files that this
+        process wrote stay, as it names or removes them itself."""
+        found = set[str]()
         try:
-            found = {it.name for it in os.scandir(self.folder / digits)}
-        except OSError:  # a folder that cannot be read now says nothing of its files
-            return 0, set()
+            found.update(it.name for it in os.scandir(self.folder / digits))
+        except OSError as fault:
+            if fault.errno in PASSING:
+                raise
         strays = {it for it in found - named if self.own not in it}
         for name in strays:
             with contextlib.suppress(OSError):

@@ -44,7 +44,7 @@ async def survey(node: "Node") -> tuple[dict[int, dict[bytes, bool]], list[bytes
                 vouched = said or ready and certified is not None and certified < epoch
                 owed = vouched or certified is not None and epoch in (ledger.epoch, certified)
                 if owed and len(lacks.get(epoch, ())) < MANY:
-                    if not all(shard.settled(identifier) for shard in side.values()):
+                    if any(shard.wants(identifier) for shard in side.values()):
                         lacks.setdefault(epoch, {})[identifier] = vouched
     return lacks, unsaid
 
@@ -67,7 +67,8 @@ async def heal(node: "Node") -> None:
             for epoch, blobs in lacks.items():
                 due = [it for it, said in blobs.items() if said or it in lacked.get(epoch, ())]
                 steps: list[Collection[bytes] | Owed] = [due]
-                if len(blobs) >= MANY:  # then all that is certified: after urgent ones, unless all are urgent
+                moves = epoch > node.ledger.epoch and not {*node.sides.get(epoch, ())} <= node.ledger.ready
+                if len(blobs) >= MANY and not moves:  # all that is certified: after urgent ones, unless all are urgent
                     steps.insert(int(len(due) < MANY), node.ledger.blobs.owed(epoch, epoch))
                 for owed in steps:
                     await settle(node, epoch, owed)

@@ -180,6 +180,7 @@ async def recover_all(node: "Node", work: list[Lack], progress: Progress) -> int
             if lack.shard.wants(lack.identifier) and await how(node, *lack):
                 put_off.append(lack)
         if lack.shard.settled(lack.identifier):
+            node.progress = progress  # again, as another recovery may run beside this one
             progress.blobs, progress.bytes = progress.blobs + 1, progress.bytes + sizes.get(lack, 0)
 
     await by_lanes(node, work, part)

@@ -24,6 +24,8 @@ LEAST = 65_536  # bytes that the rate counts for a blob at least, as anybody may
 NAMED = "SELECT file FROM contents WHERE file BETWEEN ? AND ? || '~'"
 OF_FILE = """SELECT holding, identifier, part FROM held WHERE holding IN (SELECT holding FROM holdings)
     AND identifier = ? AND NOT wrong AND content = (SELECT content FROM contents WHERE file = ?)"""
+MARK = """UPDATE held SET wrong = 1 WHERE holding = ? AND identifier = ? AND part = ?
+    AND content = (SELECT content FROM contents WHERE file = ?)"""
 TRIES = 30  # checks of a blob that may fail, such as for lack of memory or a descriptor, before it is skipped
 
 
@@ -132,12 +134,13 @@ class Scrub:
                 raise OSError(f"the disk does not take the removal of {len(over)} expired blobs")
             blobs.drop(over)
 
-    def compare(self, digits: str, base: sqlite3.Connection) -> tuple[int, list[tuple[int, bytes, int]]]:
+    def compare(self, digits: str, base: sqlite3.Connection) -> tuple[int, list[tuple[int, bytes, int, str]]]:
         """Remove the files for two digits that nothing names; return how many they were, and the sound parts whose file
         is missing. Names are read before the files and rows behind them: a file is there for as long as its row is."""
         named = {name for name, in base.execute(NAMED, (digits, digits))}
         swept, lost = self.node.store.files.sweep(digits, named)
-        return swept, [row for it in lost for row in base.execute(OF_FILE, (bytes.fromhex(it[:64]), it))]
+        found = ((it, row) for it in lost for row in base.execute(OF_FILE, (bytes.fromhex(it[:64]), it)))
+        return swept, [(holding, identifier, part, it) for it, (holding, identifier, part) in found]
 
     async def sweep(self) -> None:
         """Remove files that nothing names, as a crash may leave them, and parts of shards that are no longer here. Mark
@@ -147,7 +150,7 @@ class Scrub:
             swept, rows = await store.asked(functools.partial(self.compare, f"{number:02x}"))
             self.figures.swept, lost = self.figures.swept + swept, lost + len(rows)
             for place, row in enumerate(rows, 1):
-                store.mark(*row, True)
+                store.stage(MARK, *row)  # by its file: another may have replaced it meanwhile
                 if place % AT_ONCE == 0 or place == len(rows):
                     if not await store.durable():
                         raise OSError(f"the disk does not take marks of {len(rows)} missing files")

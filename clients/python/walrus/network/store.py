@@ -93,9 +93,9 @@ class Store(Staged):
             words = "put that database back, or move the folder away too (network/OPERATING.md)"
             raise OSError(f"the database {self.path} is new, and {folder} has files of another one: {words}")
         has_names = self.base.execute(f"{is_there} WHERE name = 'of_file'").fetchone()
-        if has_names and self.base.execute(named).fetchone() and not any(folder.glob(digits)):
-            words = "copy or mount it; if it is lost, move the database away too, and the others fill the node"
-            raise OSError(f"{self.path} names files, and {folder} is missing or empty: {words} (network/OPERATING.md)")
+        if has_names and self.base.execute(named).fetchone() and len([*folder.glob(digits)]) < 256:
+            words = "stop the node, and copy or mount all of it; if it is lost, move the database away too"
+            raise OSError(f"{self.path} names files, and {folder} is not complete: {words} (network/OPERATING.md)")
 
     def note(self, revision: int, epoch: int, shard: int, request: bytes, reply: bytes) -> None:
         """Stage a request and its reply for the history of a recorded run."""
