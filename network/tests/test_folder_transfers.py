@@ -5,7 +5,6 @@ import pathlib
 import socket
 import stat
 import tempfile
-import tracemalloc
 import unittest
 import unittest.mock
 from typing import Any, Optional, Union
@@ -14,72 +13,10 @@ from aiohttp import web
 from folder_case import Files, manifest_of, site
 from harness import HERE, lacking
 from walrus import client
-from walrus.network import places, trees
+from walrus.network import trees
 from walrus.network.local import find_program
 from walrus.network.manifest import MARK, Manifest, Place
-from walrus.network.transfers import PART, Failure
-
-
-class Places(unittest.TestCase):
-    """Paths that somebody else chose do not lead out of a folder."""
-
-    def setUp(self) -> None:
-        made = tempfile.TemporaryDirectory(prefix="walrus-places-")
-        self.addCleanup(made.cleanup)
-        self.out, self.root = pathlib.Path(made.name, "out"), pathlib.Path(made.name, "root")
-        self.out.mkdir()
-        self.root.mkdir()
-
-    def test_nothing_is_written_outside_of_the_folder(self) -> None:
-        (self.root / "link").symlink_to(self.out)
-        (self.root / "file").symlink_to(self.out / "file")
-        (self.out / "file").write_bytes(b"before")
-        (self.root / "pipe").parent.mkdir(exist_ok=True)
-        os.mkfifo(self.root / "pipe")
-        with places.Root(str(self.root)) as root:
-            for path in ("../out/x", "/etc/x", "a/../../out/x", "..", "", "a//b", "link/x", "link/a/b"):
-                with self.assertRaises((Failure, OSError), msg=path):
-                    with root.written(path) as file:
-                        file.write(b"after")
-            for path in ("file", "link", "pipe", "none", "link/file"):  # none of which is read
-                with root.opened(path, 6) as found:
-                    self.assertIsNone(found)
-            for path in ("file", "a/b/c", "pipe", "link"):  # what is there is replaced, and not followed
-                with root.written(path) as file:
-                    file.write(b"after")
-                self.assertEqual((self.root / path).read_bytes(), b"after")
-                self.assertFalse((self.root / path).is_symlink())
-        self.assertEqual([it.name for it in self.out.iterdir()], ["file"])
-        self.assertEqual((self.out / "file").read_bytes(), b"before")
-
-    def test_what_fails_leaves_nothing(self) -> None:
-        (self.root / "a").write_bytes(b"before")
-        with places.Root(str(self.root)) as root:
-            with self.assertRaises(ZeroDivisionError):
-                with root.written("a") as file:
-                    file.write(b"after")
-                    raise ZeroDivisionError
-        self.assertEqual([(it.name, it.read_bytes()) for it in self.root.iterdir()], [("a", b"before")])
-
-    def test_names_that_a_disk_takes_for_one(self) -> None:
-        pairs = [["a/b", "A/b"], ["a", "A"], ["\u00e5", "a\u030a"], ["stra\u00dfe", "STRASSE"], ["x/a", "X/b"]]
-        pairs += [["A", "a!", "a/x"], ["A/x/0", "A/x/1", "B", "a/y", "c"], ["x/y/A/1", "x/y/B", "x/y/a/0"]]
-        with places.Root(str(self.root)) as root:
-            for pair in pairs:
-                root.must_keep_apart(pair)  # this disk keeps them apart
-            with unittest.mock.patch.object(root, "folds", return_value=True):
-                for pair in pairs:
-                    with self.assertRaises(Failure):
-                        root.must_keep_apart(pair)
-                root.must_keep_apart(["a/b", "a/c", "b"])
-                root.must_keep_apart(["A/x", "a!", "b/a", "c/A", "x/a/b", "y/A/c"])
-                tracemalloc.start()
-                self.addCleanup(tracemalloc.stop)
-                root.must_keep_apart([f"{number}{'/a' * 500}" for number in range(200)])
-                self.assertLess(tracemalloc.get_traced_memory()[1], 3_000_000)  # not for each folder of each path
-            with unittest.mock.patch.object(places.os, "access", return_value=True):
-                self.assertTrue(root.folds())
-            self.assertEqual([*self.root.iterdir()], [])
+from walrus.network.transfers import PART
 
 
 @unittest.skipIf("program" in lacking(), "the program walrus is not here")
@@ -91,7 +28,7 @@ class Trees(unittest.IsolatedAsyncioTestCase):
         self.tree, self.out, self.walrus = self.top / "tree", self.top / "out", client.Walrus(find_program())
         self.files, self.asked, self.puts, self.lie = dict[str, bytes](), list[str](), list[str](), None
         self.lie: Optional[bytes]
-        self.pause, self.beside, self.least, self.hangs = 0.0, 0, 0, False
+        self.pause, self.beside, self.least, self.hangs, self.refused = 0.0, 0, 0, False, b"no body begins so"
         app = web.Application(client_max_size=2**30)
         app.add_routes([web.get("/v1/status", self.status), web.get("/v1/blobs/{name}", self.give)])
         app.add_routes([web.put("/v1/blobs", self.take), web.get("/v1/status/{name}", self.status_of)])
@@ -127,6 +64,8 @@ class Trees(unittest.IsolatedAsyncioTestCase):
         while self.beside < self.least:  # the first ones wait for one another
             await asyncio.sleep(0.02)
         self.least = 0
+        if body.startswith(self.refused):
+            return web.json_response({"error": {"status": 503, "text": "too few shards answered"}}, status=503)
         await asyncio.sleep(self.pause)
         name = (await self.add(body)) if self.lie is None else self.lie.hex()
         self.puts.append(name)
@@ -200,6 +139,13 @@ class Trees(unittest.IsolatedAsyncioTestCase):
         async with asyncio.timeout(120):
             name = await self.store()
         self.assertEqual((self.puts[-1], len(self.puts)), (name, 7))
+
+    async def test_a_part_that_is_refused_lets_those_under_way_be_stored(self) -> None:
+        """They would begin anew, and be charged twice."""
+        self.write({str(number): bytes([number]) * (trees.SMALL + 1) for number in range(4)})
+        self.pause, self.least, self.refused = 0.5, 4, b"\2"
+        await self.run_net("store", self.tree, "--epochs", "5", status=4)
+        self.assertEqual({it[0] for it in self.files.values()}, {0, 1, 3})
 
     async def test_a_part_that_fails_ends_the_others_which_leave_nothing(self) -> None:
         files = {str(number): bytes([number]) * 2 * PART for number in range(trees.WIDTH)}

@@ -1,6 +1,5 @@
-"""The files of a network's machines: founding, adding, renewing and removing."""
+"""The files of a network's machines as it is founded."""
 import contextlib
-import datetime
 import errno
 import fnmatch
 import json
@@ -10,17 +9,14 @@ import shlex
 import socket
 import ssl
 import threading
-import unittest
 from unittest import mock
 
 from founding_case import THREE, FoundingCase
-from walrus.network import TOP, certificates, entries
+from walrus.network import TOP, entries
 from walrus.network.founding import must_fit, owners_of
 from walrus.network.ledger import Entry, Ledger
-from walrus.network.local import Local
 from walrus.network.machine import Place, Unfounded
 from walrus.network.settings import GatewaySettings, RecorderSettings, Settings
-from walrus.network.transfers import Failure
 from walrus.wire import bound
 
 
@@ -169,135 +165,3 @@ class Found(FoundingCase):
             (told.key, told.database), ("/srv/one/etc/walrus/beta.key", "/srv/one/var/lib/walrus/beta/beta.db")
         )
         self.assertFalse((self.folder / "hosts" / "beta" / "units").exists())
-
-
-class Changed(FoundingCase):
-    async def test_nodes_come_and_go(self) -> None:
-        await self.found()
-        said = await self.says("add", self.folder, "delta=delta:31500", "--user", "reader")
-        self.assertIn(f"{self.folder}/hosts/delta is for delta:/etc/walrus, which runs walrus-node@delta\n", said)
-        self.assertIn("delta", json.loads((self.folder / "users" / "reader" / "network.json").read_text())["nodes"])
-        with self.assertRaisesRegex(Unfounded, "delta is there already"):
-            await self.says("add", self.folder, "delta=other:31500")
-        await self.says("remove", self.folder, "gamma", "gate", "printer")
-        self.assertFalse([*self.folder.rglob("gamma.*"), *self.folder.rglob("gate.*"), *self.folder.rglob("printer*")])
-        self.assertTrue((self.folder / "hosts" / "gamma" / "etcd.key").exists())  # gamma still belongs to the ledger
-        self.assertFalse((self.folder / "hosts" / "office").exists())
-        with self.assertRaisesRegex(Unfounded, "gamma is no node"):
-            await self.says("remove", self.folder, "gamma")
-
-    async def test_a_node_goes_alone_whose_name_begins_that_of_another_one(self) -> None:
-        await self.found()
-        await self.says("add", self.folder, "delta=delta:31500", "delta.b=delta:31501")
-        await self.says("remove", self.folder, "delta")
-        left = {path.name for path in (self.folder / "hosts" / "delta").glob("delta*")}
-        self.assertEqual(left, {f"delta.b.{end}" for end in ("toml", "crt", "key")})
-
-    async def test_settings_that_were_changed_in_the_founder_s_folder_stay(self) -> None:
-        """A machine that is replaced gets them; with a smaller quota than before it would stop the ledger."""
-        await self.found()
-        changed = {
-            path: path.read_text() + "\n" for path in self.folder.glob("hosts/*/*") if path.suffix in (".env", ".toml")
-        }
-        for path, text in changed.items():
-            path.write_text(text)
-        await self.says("add", self.folder, "delta=delta:31500", "epsilon=alpha:31501")
-        await self.says("renew", self.folder, "alpha", "etcd")
-        self.assertEqual({path: path.read_text() for path in changed}, changed)
-        page = (TOP / "network" / "OPERATING.md").read_text()
-        self.assertIn("Change the quota in `net/hosts/*/etcd.env` on desk too", page)
-        self.assertGreater(len(changed), 7)
-
-    async def test_each_machine_has_the_units_of_the_version_that_changed_its_files_last(self) -> None:
-        await self.found()
-        unit = "units/walrus-etcd.service"
-        new = (TOP / "network" / unit).read_text()
-        for words in (["add", self.folder, "delta=delta:31500"], ["renew", self.folder]):
-            for host in ("alpha", "gamma"):
-                (self.folder / "hosts" / host / unit).write_text("[Service]\n")  # as an earlier version had it
-            await self.says(*words)
-            self.assertEqual({path.read_text() for path in self.folder.glob(f"hosts/*/{unit}")}, {new})
-
-    async def test_on_one_machine_too_no_node_takes_a_name_whose_files_are_others(self) -> None:
-        local = Local(self.folder)
-        await local.found()
-        before = {path: path.read_bytes() for path in self.folder.rglob("*") if path.is_file()}
-        for name in ("etcd", "Authority", "etcd-authority", "recorder", "operator", "a b", "../x", "a=b", ""):
-            with self.assertRaises(Unfounded, msg=name):
-                await local.add_node(name)
-        there = {path: path.read_bytes() for path in self.folder.parent.rglob("*") if path.is_file()}
-        self.assertEqual(there, before)
-        await local.add_node("node-4")
-        self.assertTrue((self.folder / "node-4.toml").exists())
-
-    async def test_nobody_is_told_to_expel_the_operator_and_nobody_can(self) -> None:
-        await self.found()
-        self.assertIn("; if its key may be known, expel it", await self.says("remove", self.folder, "gate"))
-        said = await self.says("remove", self.folder, "operator")
-        self.assertRegex(said, "^operator is removed, which was at users: add --user operator makes another one; ")
-        self.assertNotIn("expel", said)
-        await self.says("add", self.folder, "--user", "operator")
-        with self.assertRaisesRegex(Failure, "operator cannot be expelled: no epoch could begin any more"):
-            await self.says("expel", self.folder / "users" / "operator", "operator")
-
-    async def test_an_authority_that_ends_soon_is_renewed_and_what_it_signed_stays_signed(self) -> None:
-        await self.found("--days", 20)
-        alpha, authority = self.folder / "hosts" / "alpha", self.folder / "authority.crt"
-        before, leaf = certificates.read(authority), certificates.read(alpha / "alpha.crt")
-        said = await self.says("renew", self.folder)
-        self.assertIn(f"{alpha}/authority.crt is new", said)
-        self.assertNotIn("alpha.crt", said)
-        after = certificates.read(alpha / "authority.crt")
-        self.assertGreater(after.not_valid_after, before.not_valid_after + datetime.timedelta(days=3_000))
-        self.assertEqual(certificates.read(alpha / "alpha.crt"), leaf)
-        self.assertTrue(certificates.is_signed(leaf, after))
-        self.assertIn("no certificate expires so soon", await self.says("renew", self.folder))
-
-    async def test_a_renewal_that_was_interrupted_is_completed_by_the_next_one(self) -> None:
-        """The first one ended between two copies of the authority, and a full disk left one of them empty."""
-        await self.found("--days", 20)
-        authority = self.folder / "authority.crt"
-        late, empty = self.folder / "hosts/gamma/authority.crt", self.folder / "users/operator/authority.crt"
-        before = authority.read_bytes()
-        await self.says("renew", self.folder)
-        late.write_bytes(before)
-        empty.write_bytes(b"")
-        said = await self.says("renew", self.folder)
-        self.assertEqual([path for path in (authority, late, empty) if f"{path} is new\n" in said], [late, empty])
-        copies = {path.read_bytes() for path in self.folder.rglob("authority.crt")}
-        self.assertEqual((copies, before in copies), ({authority.read_bytes()}, False))
-        self.assertIn("no certificate expires so soon", await self.says("renew", self.folder))
-
-    async def test_a_certificate_is_renewed_by_name_with_all_its_names(self) -> None:
-        await self.found()
-        path = self.folder / "hosts" / "alpha" / "recorder.crt"
-        before = certificates.read(path)
-        await self.says("renew", self.folder, "recorder", "--days", 9)
-        after = certificates.read(path)
-        self.assertEqual(certificates.names_of(after), certificates.names_of(before))
-        self.assertEqual(certificates.names_of(after), ["recorder", "alpha"])
-        self.assertNotEqual(after.public_key().public_numbers(), before.public_key().public_numbers())  # type: ignore
-        self.assertLess(certificates.days_left(after), 9)
-        self.assertEqual(self.faults_of(path), [])
-
-    async def test_with_a_slow_clock_nothing_is_renewed_and_with_a_right_one_what_a_fast_one_made(self) -> None:
-        with mock.patch.object(certificates, "EARLIER", datetime.timedelta(hours=-1)):
-            await self.found()
-        before = {path: path.read_bytes() for path in self.folder.rglob("*.crt")}
-        for named, late in (([], "authority"), (["alpha"], "authority"), (["authority"], "etcd-authority")):
-            text = f"/{late}.crt is not valid before .* UTC: set the clock here if it is slow; "
-            text += "if it was fast .*/net authority etcd-authority\\), and then .*$"  # both are always made together
-            with self.subTest(named=named), self.assertRaisesRegex(Unfounded, text):
-                await self.says("renew", self.folder, *named)
-            self.assertEqual({path: path.read_bytes() for path in before}, before)
-        await self.says("renew", self.folder, "authority", "etcd-authority")
-        await self.says("renew", self.folder)
-        self.assertEqual([path for path in before if certificates.early(certificates.read(path))], [])
-        self.assertIn("no certificate expires so soon", await self.says("renew", self.folder))
-
-    def faults_of(self, path: pathlib.Path) -> list[str]:
-        return certificates.faults_of(path, path.with_suffix(".key"), self.folder / "authority.crt", None)
-
-
-if __name__ == "__main__":
-    unittest.main()

@@ -108,6 +108,9 @@ class Transfers(TransferCase):
         self.named = (await self.id(version)).hex()
         self.assertIn(self.named.encode(), (await self.run_net("store", "/proc/version", "--epochs", "1"))[0])
         self.assertEqual(self.bodies[-1], version)
+        drawn = "/proc/sys/kernel/random/uuid"  # each read of it gives other bytes: those that are sent are named
+        _, said = await self.run_net("store", drawn, "--epochs", "1", status=1)
+        self.assertIn(f"the file is {(await self.id(self.bodies[-1])).hex()}", said)
         _, said = await self.run_net("store", second, "--epochs", "1", status=1)
         self.assertIn(f"the file is {(await self.id(b'second file')).hex()}", said)
         frames = b"".join(map(client.envelope, (b"first", b"second file")))

@@ -19,14 +19,23 @@ async def all_of(works: Iterable[Coroutine[Any, Any, Result]]) -> list[Result]:
     return [task.result() for task in tasks]
 
 
-async def several(works: Iterator[Coroutine[Any, Any, object]], width: int) -> None:
-    """Runs these, at most `width` at once; each is taken from the iterator only when its turn comes."""
+async def several(works: Iterator[Coroutine[Any, Any, object]], width: int, ends: bool = True) -> None:
+    """Runs these, at most `width` at once; each is taken from the iterator only when its turn comes. Unless a fault
+    `ends` those under way, they are completed before it is raised."""
+    faults = list[Exception]()
 
     async def go_on() -> None:
-        for work in works:
-            await work
+        while not faults and (work := next(works, None)):
+            try:
+                await work
+            except Exception as fault:
+                if ends:
+                    raise
+                faults.append(fault)
 
     await all_of(go_on() for _ in range(width))
+    if faults:
+        raise faults[0]
 
 
 def first_of(fault: Exception) -> Exception:

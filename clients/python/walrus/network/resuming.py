@@ -172,12 +172,14 @@ class Sending:
                 await check(said)
             yield said
 
-    async def name(self, end: int) -> None:
-        """Continues the computation of the identifier up to byte `end` of the file. A part on its way there is not lost
-        if the caller is cancelled, as it is when a request breaks off."""
+    async def name(self, end: int, last: bytes = b"") -> None:
+        """Continues the computation of the identifier up to byte `end` of the file; `last` are the bytes before it, if
+        they are at hand: what is sent is named, even if somebody writes to the file. A part on its way there is not
+        lost if the caller is cancelled, as it is when a request breaks off."""
         while self.adding or self.named < end:
             if not self.adding:
-                part = os.pread(self.file.fileno(), min(PART, end - self.named), self.named - self.start)
+                size, place = min(PART, end - self.named), self.named - self.start
+                part = last if len(last) == end - self.named else os.pread(self.file.fileno(), size, place)
                 if not part:
                     raise Failure("the file has become shorter since the command began: store it again", 1)
                 self.named += len(part)
@@ -188,6 +190,6 @@ class Sending:
     async def parts(self, place: int) -> AsyncIterator[bytes]:
         while part := os.pread(self.file.fileno(), min(PART, self.end - place), place - self.start):
             place += len(part)
-            await self.name(place)
+            await self.name(place, part)
             yield part
             self.bar.add(len(part))

@@ -56,7 +56,8 @@ class Shelf:
             async with self.turns.take(ASKING.get()):
                 if self.known(name) is None:
                     if name not in self.loading:
-                        self.loading[name] = asyncio.create_task(self.load(name))
+                        self.loading[name] = task = asyncio.create_task(self.load(name))
+                        task.add_done_callback(lambda it: it.cancelled() or it.exception())  # even if nobody waits
                     await asyncio.shield(self.loading[name])
         return found
 
@@ -91,6 +92,8 @@ class Shelf:
         """Returns the bytes of what may be a manifest, as a mapped file without a name if they are many."""
         async with self.reader.blob(name) as blob:
             file = File.of(name, blob)
+            if file.names == name and bytes(blob[: len(MARK)]) != MARK:
+                raise Foreign("it does not begin as a manifest does")
             if file.length <= SLIGHT and file.names == name:
                 return bytes(blob)
         with tempfile.TemporaryFile(buffering=0) as out:

@@ -119,8 +119,8 @@ class Sending:
 
     async def send_all(self, top: bytes) -> Any:
         large = self.look(top)
-        await several((self.send_large(*it) for it in large), WIDTH)
-        await several((self.send_pack(*it) for it in enumerate(self.folder.packs())), WIDTH)
+        await several((self.send_large(*it) for it in large), WIDTH, ends=False)
+        await several((self.send_pack(*it) for it in enumerate(self.folder.packs())), WIDTH, ends=False)
         lines = b"".join(self.folder.manifest())
         name, told = await self.send(lambda: iter([lines]), "the folder", always=True)
         found = {"files": self.folder.count, "bytes": self.folder.bytes, "sent": self.sent, "label": label_of(name)}
