@@ -91,6 +91,7 @@ class DiskCase(unittest.IsolatedAsyncioTestCase):
                 self.store.put(1, 0, name, part, b"content", None)
         self.node: Any = types.SimpleNamespace(name="a", store=self.store, sides={}, caught_up=False)
         self.node.ledger = types.SimpleNamespace(blobs=types.SimpleNamespace(over=lambda count: []))
+        self.node.state = types.SimpleNamespace(entering=False)
         self.node.settings = types.SimpleNamespace(scrub=0, scrub_rate=10**9)
         self.enterContext(mock.patch.object(scrub, "PAUSE", 0.05))
         self.scrub = Scrub(self.node)
@@ -181,6 +182,19 @@ class Expiry(DiskCase):
             await self.scrub.expire()
         self.assertEqual((over, self.held()), ([], 0))
         self.assertLessEqual(max(len(it.args[0]) for it in expire.call_args_list), 50)
+
+
+class Loading(DiskCase):
+    async def test_rows_of_expired_blobs_are_dropped_once_no_checkpoint_is_being_loaded(self) -> None:
+        over, dropped, blobs = [NAMES[:2], []], list[list[bytes]](), self.node.ledger.blobs
+        blobs.over, blobs.drop = lambda count: over.pop(0), dropped.append
+        self.node.ledger.epoch, self.node.state.entering = 1, True
+        dropping = asyncio.create_task(self.scrub.expire())
+        await asyncio.sleep(0.2)
+        self.assertEqual((dropped, dropping.done()), ([], False))
+        self.node.state.entering = False
+        await asyncio.wait_for(dropping, 30)
+        self.assertEqual(dropped, [NAMES[:2]])
 
 
 class Scrubs(DiskCase):

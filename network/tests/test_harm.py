@@ -47,6 +47,7 @@ class Turns(TurnCase):
         """A node over that disk and that ledger."""
         made: Any = types.SimpleNamespace(ledger=self.state.ledger, store=self.store, sides={}, shards=lambda epoch: {})
         made.name, made.judges, made.turned = "node-0", types.SimpleNamespace(least=1), None
+        made.state = self.state
         made.scrub = types.SimpleNamespace(left=asyncio.Event(), node=made)
         made.scrub.expire = types.MethodType(Scrub.expire, made.scrub)
         for name in ("apply", "begins_anew", "turn", "epochs"):

@@ -78,22 +78,6 @@ class States(RulesCase):
         self.assertEqual(one.blobs.over(9), [bytes.fromhex(names[0])])
         self.same(one.ledger, other.ledger)
 
-    def test_a_node_whose_loop_stands_still_for_a_checkpoint_tells_its_manager_that_it_goes_on(self) -> None:
-        told, other, chain = list[str](), State(), Chain(0, bytes(32))
-        texts = [entry_key("x", "register", f"{number:064}", 5) for number in range(300)]
-        entries = chain.followed([entry_key(OPERATOR, "begin", 0, 1, "a,b,c,d"), *texts])
-        for entry in entries:
-            other.ledger.apply(entry)
-        other.save(chain.behind(it.text for it in entries))
-        pieces = [*map(zlib.compress, other.written())]
-        with tempfile.TemporaryDirectory() as folder, contextlib.closing(State(f"{folder}/kept", 2)) as kept:
-            with mock.patch.multiple(state, STEPS=200, alive=lambda: told.append("it goes on")):
-                asyncio.run(kept.take(pieces))
-            count = len(told)
-            self.assertGreater(count, 20)
-            self.assertEqual((len(kept.blobs), len([*kept.blobs]), len(told)), (300, 300, count))
-            self.same(kept.ledger, other.ledger)
-
     def test_the_tail_reaches_back_behind_the_turn_before_the_last_one(self) -> None:
         with tempfile.TemporaryDirectory() as folder:
             kept, chain, entries, turns = State(f"{folder}/kept", 2), Chain(0, bytes(32)), list[Entry](), [0, 0]

@@ -132,6 +132,8 @@ class Scrub:
             store.expire(over, self.node.ledger.epoch)
             if not await store.durable():
                 raise OSError(f"the disk does not take the removal of {len(over)} expired blobs")
+            while self.node.state.entering:  # while a thread loads a checkpoint, nobody else may write to the ledger
+                await asyncio.sleep(PAUSE)
             blobs.drop(over)
 
     def compare(self, digits: str, base: sqlite3.Connection) -> tuple[int, list[tuple[int, bytes, int, str]]]:

@@ -15,7 +15,6 @@ from .blobs import ALL, Blobs
 from .database import Database
 from .entries import Chain, Entry
 from .ledger import Ledger
-from .notify import alive
 
 EACH, LATER = 0.5, 1.0  # seconds between two commits; the same at least after the disk took none, such as when full
 HELD = 5_000  # entries that wait for the disk: applying them again takes 0.15 s of a processor, or 1 s if it is busy
@@ -23,7 +22,6 @@ REST = 10  # the pause after a failed commit, as a multiple of the time that it 
 PAGES = 32_768  # KiB of the database that are kept in memory
 VERSION = 3  # of the tables
 DROPPED = 1_000  # rows of blobs that are over, or entries of the tail, that are deleted with a commit at most
-STEPS = 1_000_000  # of SQLite's machine, some tenths of a second: after each the service manager gets a sign of life
 TORN = sqlite3.SQLITE_CORRUPT, sqlite3.SQLITE_NOTADB, sqlite3.SQLITE_ERROR  # damaged, no database, or another's
 TABLES = """
 PRAGMA synchronous = NORMAL;
@@ -173,10 +171,11 @@ class State(Database):
         self.base.execute("INSERT OR REPLACE INTO digests VALUES (?, ?)", (chain.place, chain.digest))
 
     async def take(self, pieces: Collection[bytes]) -> None:
-        """Replaces the state by a checkpoint; retries until the disk takes it."""
+        """Replaces the state by a checkpoint. Retries until the disk takes it, and before that all that was applied: so
+        what others see meanwhile does not go back."""
         while True:
             try:
-                if not self.is_full():
+                if not self.is_full() and self.settle():
                     return await self.take_now(pieces)
             except sqlite3.OperationalError as fault:  # of a full disk, which is told from damage as in `open`
                 if getattr(fault, "sqlite_errorcode", sqlite3.SQLITE_FULL) & 0xFF in TORN:
@@ -185,42 +184,36 @@ class State(Database):
             await asyncio.sleep(LATER)
 
     async def take_now(self, pieces: Iterable[bytes]) -> None:
-        """Does so once; if it fails, everything is as before. A thread writes the checkpoint to the file. Until all is
-        there, others read what was committed before, over a second connection. Without a file, or with a tail, as a
-        node may drop rows meanwhile, it is written on the event loop. After a cancellation the state is still
-        `entering` and can only be closed."""
-        self.settle()
-        self.entering, fault, base, fresh, chain = True, None, self.base, [*self.fresh], self.chain
-        base.execute("ROLLBACK")  # of nothing, or of what a full disk did not take
+        """Does so once, over a committed state, which stays if it fails. A thread writes the checkpoint to the file.
+        Until all is there, others read what was committed before, over a second connection. Without a file it is
+        written on the event loop. After a cancellation the state is still `entering` and can only be closed."""
+        self.entering, fault, base = True, None, self.base
+        base.execute("ROLLBACK")  # of nothing
         reader: Optional[sqlite3.Connection] = None
         try:
-            if self.name and not self.tail:
+            if self.name:
                 reader = sqlite3.connect(self.name, isolation_level=None)
                 reader.executescript("PRAGMA query_only = ON; BEGIN; SELECT * FROM told")
                 self.blobs.base = reader
-                self.fall_back()
                 await self.aside(lambda: self.replace(pieces))
                 reader.execute("COMMIT")
             else:
-                base.set_progress_handler(alive, STEPS)  # the event loop, which else does so, is blocked
                 self.replace(pieces)
         except Exception as it:  # the disk is full, or these pieces are no checkpoint
             fault = it
             if base.in_transaction:
                 base.execute("ROLLBACK")
-        self.fall_back()
+        self.blobs.forget()
+        self.load()
         if reader:
             with contextlib.suppress(sqlite3.Error):  # if this fails, the next commit empties SQLite's log
                 await self.aside(lambda: base.execute("PRAGMA wal_checkpoint(PASSIVE)").fetchall())
             self.blobs.base = base
             reader.close()
-        base.set_progress_handler(None, 0)
         base.execute("PRAGMA cache_spill = OFF")
         base.execute("BEGIN IMMEDIATE")
         self.entering = False
         if fault:
-            self.fresh += fresh
-            self.enter_again(chain)
             raise fault
 
     def replace(self, pieces: Iterable[bytes]) -> None:
@@ -236,12 +229,6 @@ class State(Database):
             other.put(told)  # raises if the next start could not read it
         self.note(Chain(told["place"], bytes.fromhex(told["digest"])))
         base.execute("COMMIT")
-
-    def fall_back(self) -> None:
-        """Returns to the committed state."""
-        self.blobs.forget()
-        self.load()
-        self.fresh.clear()
 
     def written(self) -> Iterator[bytes]:
         """Returns a checkpoint of the present state, piece by piece; commits in the meantime do not change it."""
