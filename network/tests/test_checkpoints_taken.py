@@ -131,11 +131,13 @@ class Taking(RecorderCase):
                 self.assertTrue(await late.step(Batch(late.chain, [FOUNDED, registration("x", 1)])))
                 late.state.due = 0
                 task = asyncio.create_task(late.state.take(pieces))
-                await asyncio.sleep(0)
+                turns = await asyncio.sleep(0, 0)
                 while not task.done():
                     seen.add((late.chain.place, late.ledger.epoch, len(late.ledger.blobs)))
+                    turns += late.state.entering
                     await asyncio.sleep(0.001)
                 await task
+                self.assertGreater(turns, 9)  # the event loop goes on meanwhile
                 self.assertEqual(ended[-2:], ["DELETE FROM entries", "COMMIT"])
                 self.assertLessEqual(seen, {(2, 0, 1), (ahead.chain.place, 1, 9)})
                 self.assertEqual(([*late.state.written()], late.state.whole), ([*ahead.state.written()], True))

@@ -111,7 +111,7 @@ class Challenges(unittest.IsolatedAsyncioTestCase):
             self.assertTrue(
                 ledger.apply(Entry(epoch + 1, entry_key(OPERATOR, "begin", epoch, faults, ",".join(names))))
             )
-        blob = Blob(9, "x").voted(entries.ACK, 0, frozenset(each), ledger.quorum)
+        blob = Blob(9, "x").voted(entries.ACK, 0, sum(1 << it for it in each), ledger.quorum)
         for number in range(page.RECENT):
             ledger.blobs[number.to_bytes(32, "big")] = blob
         self.watch.network.ledger = ledger

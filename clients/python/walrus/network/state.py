@@ -174,13 +174,13 @@ class State(Database):
         """Replaces the state by a checkpoint. Retries until the disk takes it, and before that all that was applied: so
         what others see meanwhile does not go back."""
         while True:
-            try:
-                if not self.is_full() and self.settle():
+            if not self.is_full() and self.settle():
+                try:
                     return await self.take_now(pieces)
-            except sqlite3.OperationalError as fault:  # of a full disk, which is told from damage as in `open`
-                if getattr(fault, "sqlite_errorcode", sqlite3.SQLITE_FULL) & 0xFF in TORN:
-                    raise
-                self.tell(fault)
+                except sqlite3.OperationalError as fault:  # of a full disk, which is told from damage as in `open`
+                    if self.entering or getattr(fault, "sqlite_errorcode", sqlite3.SQLITE_FULL) & 0xFF in TORN:
+                        raise
+                    self.tell(fault)
             await asyncio.sleep(LATER)
 
     async def take_now(self, pieces: Iterable[bytes]) -> None:
