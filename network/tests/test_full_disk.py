@@ -2,7 +2,9 @@
 import asyncio
 import collections
 import contextlib
+import functools
 import io
+import pathlib
 import random
 import sqlite3
 import tempfile
@@ -13,6 +15,7 @@ import zlib
 from typing import Any
 from unittest import mock
 
+from harness import lacking
 from ledger_case import Plain
 from recorder_case import RecorderCase
 from rules_case import COMMITTEES, RulesCase, random_entries
@@ -22,6 +25,7 @@ from walrus.network.entries import OPERATOR, Chain, entry_key
 from walrus.network.etcd import Batch, Failed
 from walrus.network.follower import News, View
 from walrus.network.ledger import Ledger
+from walrus.network.local import Local
 from walrus.network.recorder import Recorder
 from walrus.network.state import HELD, State
 
@@ -130,6 +134,17 @@ class Followers(FullCase, RulesCase):
             self.kept.save(chain)
         self.assertTrue(self.kept.whole)
 
+    async def test_a_fault_that_cannot_be_reported_leaves_nothing_half_applied(self) -> None:
+        entries = Chain(0, bytes(32)).followed([entry_key(OPERATOR, "begin", 0, 1, "a,b,c,d")])
+        self.kept.ledger.apply(entries[0])
+        Full.full = True
+        with mock.patch("sys.stderr", mock.Mock(write=mock.Mock(side_effect=OSError(28, "No space left on device")))):
+            with self.assertRaises(OSError):
+                self.kept.save(Chain(0, bytes(32)).behind(it.text for it in entries), entries)
+        self.assertEqual((self.kept.whole, self.kept.ledger.now), (False, tuple("abcd")))
+        Full.full, self.kept.again = False, 0.0
+        self.assertTrue(self.kept.settle())
+
     async def test_a_checkpoint_waits_for_room(self) -> None:
         self.enterContext(mock.patch.object(state, "LATER", 0.01))
         pieces, self.kept.fault = [zlib.compress(it) for it in State().written()], "database or disk is full"
@@ -192,6 +207,22 @@ class Recorders(FullCase, RecorderCase):
         Full.full = False
         await reader.catch_up()
         self.assertEqual((reader.fresh, reader.chain), (True, writer.chain))
+
+
+@unittest.skipIf(lacking(), f"{lacking()} is not here (network/install)")
+class Services(unittest.IsolatedAsyncioTestCase):
+    async def test_a_service_goes_on_where_its_lines_cannot_be_written(self) -> None:
+        """Such as with `network/up`, where they go to files on the disk of the databases."""
+        asyncio.get_running_loop().set_debug(False)
+        folder = self.enterContext(tempfile.TemporaryDirectory(prefix="walrus-full-"))
+        local, full = Local(pathlib.Path(folder)), self.enterContext(open("/dev/full", "wb"))
+        self.addAsyncCleanup(local.close)
+        await local.found()
+        await local.add_node("node-0")
+        with mock.patch.object(local, "spawn", functools.partial(local.spawn, stderr=full)):
+            await local.start_recorder("recorder-0")  # reports that etcd is away
+            await local.start_node("node-0")  # reports after 5 s that the ledger is away
+        self.assertEqual([it.returncode for it in local.processes.values()], [None, None])
 
 
 if __name__ == "__main__":

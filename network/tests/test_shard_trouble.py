@@ -40,6 +40,21 @@ class Trouble(ShardCase):
         self.assertLessEqual(codes, {client.DONE, client.HELD})
         self.assertTrue(self.shard.settled(parts[1][1:33]))
 
+    async def test_a_fault_that_cannot_be_reported_leaves_nothing_half_rolled_back(self) -> None:
+        assert self.store
+        self.store.begin(0, 7)
+        written = self.store.written()
+        assert written
+        self.store.base.execute("PRAGMA max_page_count = 1")
+        with mock.patch("sys.stderr", mock.Mock(write=mock.Mock(side_effect=OSError(28, "No space left on device")))):
+            with self.assertRaises(OSError):
+                self.store.state("name", "x" * 99_999)
+        self.store.base.execute("PRAGMA max_page_count = 99999")
+        self.assertEqual((self.store.losses, await asyncio.wait_for(written, 60)), (1, False))
+        self.store.state("name", "y")
+        self.assertTrue(await asyncio.wait_for(self.store.durable(), 60))
+        self.assertEqual(self.store.losses, 1)
+
     async def test_a_file_that_the_disk_does_not_take_is_refused(self) -> None:
         assert self.store
         metadata, primary, secondary = await self.parts(bytes(LARGE))

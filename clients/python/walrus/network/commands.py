@@ -14,6 +14,7 @@ from .dates import epochs_for
 from .fetching import fetch_any
 from .follower import Refused, Unreachable
 from .manifest import clean
+from .notify import lose_lines
 from .piped import store_piped
 from .resuming import store
 from .transfers import PATIENCE, Failure, ask, listed, store_bundle
@@ -201,6 +202,8 @@ def finish(words: argparse.Namespace) -> int:
         print(COMPLETION)
     elif words.command == "token":
         tokens.run(words)
+    elif words.command in ("node", "recorder", "gateway", "up"):
+        lose_lines()
     status = loop.run(run(words)) if words.command not in ("completion", "token") else 0
     sys.stdout.flush()
     return status

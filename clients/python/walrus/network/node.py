@@ -23,7 +23,7 @@ from .intake import Intake
 from .judge import PARTS, Busy, Clash, Judges, Room
 from .entries import LAST_EPOCH
 from .ledger import ACK, ATTEST, REGISTER, Entry, entry_key
-from .notify import ready
+from .notify import lose_lines, ready
 from .peers import Peers
 from .recovery import Progress, passing, settle
 from .scrub import AT_ONCE, Scrub
@@ -289,6 +289,7 @@ async def serve(settings: Settings, kind: type[Node] = Node) -> int:
 def main(kind: type[Node] = Node) -> int:
     parser = argparse.ArgumentParser(description="Runs a node of a walrus network.")
     parser.add_argument("settings", type=pathlib.Path, help="a file with the node's settings")
+    lose_lines()
     return loop.run(serve(Settings.read(parser.parse_args().settings), kind))
 
 

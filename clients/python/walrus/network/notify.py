@@ -1,9 +1,12 @@
-"""Messages to the service manager: that a service is ready, and regularly that it is alive."""
+"""Messages to the service manager: that a service is ready, and regularly that it is alive. Lines for operators."""
 import asyncio
 import contextlib
 import functools
+import io
 import os
 import socket
+import sys
+from typing import Any
 
 SOON = 1.0  # seconds until READY is sent again to a manager that accepted nothing
 
@@ -44,6 +47,22 @@ def tell_ready() -> None:
         notify("READY=1")
     except BlockingIOError:
         asyncio.get_running_loop().call_later(SOON, tell_ready)
+
+
+class Lines(io.FileIO):
+    """Loses what its file does not take, as on a full disk: the caller is in the midst of what it reports."""
+
+    def write(self, data: Any) -> int:
+        try:
+            return super().write(data)
+        except OSError:
+            return len(data)
+
+
+def lose_lines() -> None:
+    """Lose lines on standard error that cannot be written from now on, so that none of them ends a service."""
+    if sys.stderr:
+        sys.stderr = io.TextIOWrapper(Lines(2, "w", closefd=False), errors="backslashreplace", line_buffering=True)
 
 
 def ready(text: str) -> None:

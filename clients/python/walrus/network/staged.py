@@ -90,16 +90,16 @@ class Staged(Database):
 
     def lose(self, fault: Exception) -> None:
         """Roll back what was staged, and report at once to those who wait for it that it is lost."""
-        if type(fault) is sqlite3.DatabaseError:  # pages are torn
-            self.fail(fault)
-        else:
-            self.tell(fault)
         self.losses += 1
         if self.base.in_transaction:
             self.base.execute("ROLLBACK")
         self.abandon(self.named)
         if pending := self.settle():
             pending.set_result(False)
+        if type(fault) is sqlite3.DatabaseError:  # pages are torn
+            self.fail(fault)
+        else:
+            self.tell(fault)
 
     def settle(self) -> Optional[Written]:
         """Forget what was staged, and return its future, or None if nothing was."""

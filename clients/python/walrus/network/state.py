@@ -128,13 +128,13 @@ class State(Database):
             self.again, self.due, self.fault = 0.0, time.monotonic() + EACH, ""
             self.fresh.clear()
         except sqlite3.OperationalError as fault:  # everything since the last commit is rolled back
-            self.tell(fault)
             begun = time.monotonic()
             if self.base.in_transaction:  # SQLite may have rolled back already when COMMIT failed
                 self.base.execute("ROLLBACK")
             self.base.execute("BEGIN IMMEDIATE")
             self.enter_again(chain)
             self.again = time.monotonic() + max(LATER, REST * (time.monotonic() - begun))
+            self.tell(fault)
         return self.whole
 
     def takes_more(self) -> bool:
