@@ -95,7 +95,7 @@ class ShardCase(unittest.IsolatedAsyncioTestCase):
     def free(self, part: float) -> Any:
         """Pretend that this fraction of the disk is free."""
         disk = types.SimpleNamespace(total=10**12, free=int(part * 10**12))
-        return mock.patch("walrus.network.shard.shutil.disk_usage", lambda _: disk)
+        return mock.patch("walrus.network.store.shutil.disk_usage", lambda _: disk)
 
     def files(self) -> list[pathlib.Path]:
         assert self.store

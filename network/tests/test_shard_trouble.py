@@ -1,5 +1,6 @@
 """What a shard does if its disk is full, its memory is short, or what it judges by is lost."""
 import asyncio
+import collections
 import ctypes
 import os
 import pathlib
@@ -39,6 +40,17 @@ class Trouble(ShardCase):
         codes = {code_of(await self.shard.put(part)) for part in parts}
         self.assertLessEqual(codes, {client.DONE, client.HELD})
         self.assertTrue(self.shard.settled(parts[1][1:33]))
+
+    async def test_the_disk_with_less_room_counts_that_of_the_database_or_that_of_the_files(self) -> None:
+        assert self.store
+        [metadata, *_], self.shard.reserve = await self.parts(b"first"), 0.05
+        for full in (self.store.path.parent, self.store.files.folder):
+            use = collections.defaultdict(lambda: types.SimpleNamespace(total=10**11, free=2 * 10**10))
+            use[full] = types.SimpleNamespace(total=10**13, free=4 * 10**11)  # below its reserve
+            with mock.patch("walrus.network.store.shutil.disk_usage", use.__getitem__):
+                self.assertEqual((self.shard.free_pages(), self.store.disk(0.05)), (0, use[full]))
+                self.assertEqual(code_of(await self.shard.put(metadata)), shard.FULL)
+        self.assertEqual(code_of(await self.shard.put(metadata)), client.DONE)
 
     async def test_a_fault_that_cannot_be_reported_leaves_nothing_half_rolled_back(self) -> None:
         assert self.store

@@ -4,7 +4,6 @@ import collections
 import contextlib
 import dataclasses
 import json
-import shutil
 import sqlite3
 import time
 from typing import TYPE_CHECKING, Any, Optional
@@ -94,7 +93,7 @@ class NodePort(Port):
     def figures(self) -> dict[str, Any]:
         """Return figures of what the node holds, its disk, its judges, and the progress of recovery and scrubs."""
         node = self.node
-        disk, room = shutil.disk_usage(node.store.path.parent), node.judges.room
+        disk, room = node.store.disk(node.settings.reserve), node.judges.room
         return {
             "held": self.held,
             "ledger": {"place": node.chain.place if node.chain else 0},

@@ -3,7 +3,6 @@ import asyncio
 import contextlib
 import dataclasses
 import errno
-import shutil
 import sqlite3
 import sys
 from typing import AsyncIterator, Callable, Collection, Iterable, Mapping, NamedTuple, Optional, Sequence
@@ -222,7 +221,7 @@ class Shard:
 
     def free_pages(self, part: float = 1.0) -> int:
         """Return the number of free disk pages beyond `part` of the reserve."""
-        disk = shutil.disk_usage(self.store.name)
+        disk = self.store.disk(part * self.reserve)
         return min(max(0, int(disk.free - part * self.reserve * disk.total)) // 4096, 2**32 - 1)
 
     async def keep(self, identifier: bytes, judged: Judged, parts: Optional[Parts], files: Writing) -> list[bytes]:

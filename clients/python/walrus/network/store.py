@@ -7,6 +7,7 @@ import asyncio
 import contextlib
 import errno
 import pathlib
+import shutil
 import sqlite3
 import sys
 import weakref
@@ -225,6 +226,12 @@ class Store(Staged):
         words = "SELECT holding, identifier FROM held WHERE (holding, identifier) > (?, ?) ORDER BY 1, 2 LIMIT 1"
         row = self.base.execute(words, (holding, identifier)).fetchone()
         return (row[0], row[1]) if row else None
+
+    def disk(self, reserve: float) -> Any:
+        """Return the use of the disk that has less room beyond this part of it: the database's, or that of the files,
+        whose folder may be on a disk of its own."""
+        disks = map(shutil.disk_usage, (self.path.parent, self.files.folder))
+        return min(disks, key=lambda it: it.free - reserve * it.total)
 
     def counts(self, base: Optional[sqlite3.Connection] = None) -> dict[str, int]:
         """Return how many blobs and bytes are held and how many parts are marked wrong; reads the rows of all parts."""
