@@ -105,6 +105,18 @@ class Apart(ShardCase):
         self.open()
         self.assertEqual(await self.read(primary[1:33]), [metadata, primary])
 
+    async def test_databases_that_differ_only_in_their_endings_are_not_open_at_once(self) -> None:
+        """Else each one's sweep would remove the files of the other, which are in the same folder."""
+        for _ in range(2):
+            with self.assertRaisesRegex(OSError, "another process runs over .*/a.parts: .* in more than its ending"):
+                Store(self.path.with_suffix(".2"))
+        metadata, primary, _ = await self.put(bytes(LARGE))
+        self.open()
+        self.assertEqual(await self.read(primary[1:33]), [metadata, primary])
+        self.close()
+        with self.assertRaisesRegex(OSError, "is new, and .* has files of another one"):
+            Store(self.path.with_suffix(".2"))
+
 
 class Places(unittest.IsolatedAsyncioTestCase):
     async def test_the_folder_of_a_database_may_have_any_name(self) -> None:

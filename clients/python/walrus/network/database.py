@@ -13,17 +13,21 @@ ROOM = 1_048_576  # bytes that must be free before a disk that was full is tried
 
 
 class Database:
-    """A database under a lock file, or one without files, of this object alone, if `name` is empty."""
+    """A database under lock files, its own and those of `others`, or one without files, of this object alone, if `name`
+    is empty."""
 
     seconds = 20.0  # to wait while another process has locked the database
     checked: Sequence[object] = (1,)  # tables whose pages are checked; (1,): all, up to one fault
 
-    def __init__(self, name: str):
+    def __init__(self, name: str, *others: str):
         self.name, self.fault = name, ""
         self.working: Optional["concurrent.futures.Future[object]"] = None  # a thread's work over `base`
         with contextlib.ExitStack() as opened:
-            if name:
-                fcntl.flock(opened.enter_context(open(f"{name}.lock", "ab")), fcntl.LOCK_EX | fcntl.LOCK_NB)
+            for it in [name, *others] if name else []:
+                try:
+                    fcntl.flock(opened.enter_context(open(f"{it}.lock", "ab")), fcntl.LOCK_EX | fcntl.LOCK_NB)
+                except BlockingIOError as fault:
+                    raise BlockingIOError(fault.errno, f"another process runs over {it}") from None
             base = sqlite3.connect(name, isolation_level=None, timeout=self.seconds, check_same_thread=False)
             self.base = opened.enter_context(contextlib.closing(base))
             self.base.execute("PRAGMA journal_mode = WAL")

@@ -44,10 +44,10 @@ class Staged(Database):
         self.syncing = list[tuple[Written, list[str]]]()  # what is being synced
         self.syncs = queue.SimpleQueue[Optional[asyncio.AbstractEventLoop]]()  # syncs to make: whom to report to
         try:
-            super().__init__(str(self.path))
-        except BlockingIOError:
-            words = "end that one first, or name another database"
-            raise OSError(f"another process runs over {self.path}: {words}") from None
+            super().__init__(str(self.path), str(self.path.with_suffix(".parts")))
+        except BlockingIOError as fault:
+            words = "end that one first, or name a database that differs in more than its ending"
+            raise OSError(f"{fault.strerror}: {words}") from None
         self.bring_in()
         self.log = self.opened.enter_context(open(f"{self.path}-wal", "rb"))  # kept open: it reports each fault once
         self.files.sync(self.path.parent)  # the folder of the log
