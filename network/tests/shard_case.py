@@ -141,7 +141,7 @@ class NodeCase(ShardCase):
         """Return what a handover needs of a node; it collects what it posts."""
         node = types.SimpleNamespace(name="a", store=self.store, ledger=self.ledger, sides=sides, posted=[], vouched=[])
         node.caught_up, node.judges, node.repairs = True, self.judges, judge.Room(10_000_000)
-        node.unattested, node.state = set[bytes](), types.SimpleNamespace(entering=False)
+        node.unattested, node.state = set[bytes](), types.SimpleNamespace(base=self.ledger.blobs.base)
         node.peers = types.SimpleNamespace(seats=lambda owners, faults: self.seats)
         node.port = types.SimpleNamespace(shape=client.Shape(1))
 

@@ -132,7 +132,7 @@ class Scrub:
             store.expire(over, self.node.ledger.epoch)
             if not await store.durable():
                 raise OSError(f"the disk does not take the removal of {len(over)} expired blobs")
-            while self.node.state.entering:  # while a thread loads a checkpoint, nobody else may write to the ledger
+            while blobs.base is not self.node.state.base:  # a thread loads a checkpoint: nobody else may write
                 await asyncio.sleep(PAUSE)
             blobs.drop(over)
 
