@@ -197,6 +197,19 @@ class Loading(DiskCase):
         await asyncio.wait_for(dropping, 30)
         self.assertEqual(dropped, [NAMES[:2]])
 
+    async def test_a_node_that_still_reads_the_ledger_does_not_say_that_it_is_away(self) -> None:
+        made = mock.MagicMock(turn=mock.AsyncMock(), until=mock.AsyncMock(return_value=False), watched=asyncio.sleep)
+        made.follow.return_value = 0
+        for entering, silence, why in (
+            (True, 9.0, "is still being read"),
+            (False, 1.0, "is still"),
+            (False, 9.0, "is away"),
+        ):
+            made.state.entering, made.silence.return_value = entering, silence
+            with mock.patch("ssl.create_default_context", side_effect=EOFError), self.assertRaises(EOFError):
+                await Node.open(made)
+            self.assertIn(f": the ledger {why}", self.said.getvalue().splitlines()[-1])
+
 
 class Scrubs(DiskCase):
     async def scrubbed(self, fails: int) -> list[bytes]:
