@@ -3,6 +3,7 @@ import asyncio
 import contextlib
 import io
 import json
+import shutil
 import time
 import types
 import unittest
@@ -147,6 +148,22 @@ class Missing(NodeCase):
             self.assertEqual(await recovery.settle(self.here, 0, self.names), 0)
             self.assertEqual(any(it.asked for it in self.seats), name == self.names[1])
             self.assertEqual((len(self.files()), await self.lacked()), (6, {}))
+
+    async def test_if_one_of_the_folders_is_lost_the_others_stay(self) -> None:
+        assert self.store
+        name = self.names[0]
+        lost = self.store.files.path(name.hex()).parent
+        self.close()
+        shutil.rmtree(lost)
+        with self.assertRaisesRegex(OSError, r"if only some of its folders 00 to ff are lost, make them \(mkdir"):
+            self.open()
+        lost.mkdir()
+        self.open()
+        self.here = self.node({0: {0: self.shard}})
+        await scrub.Scrub(self.here).sweep()
+        self.assertEqual(await self.lacked(), {0: {name: True}})
+        self.assertEqual(await recovery.settle(self.here, 0, self.names), 0)
+        self.assertEqual((len(self.files()), await self.lacked()), (6, {}))
 
     async def test_nothing_is_said_in_a_handover_before_missing_files_are_known(self) -> None:
         async def wait(node: object) -> None:
