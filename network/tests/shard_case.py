@@ -18,6 +18,7 @@ from walrus.network.ledger import OPERATOR, Entry, Ledger, entry_key
 from walrus.network.local import find_program
 from walrus.network.store import Store
 from walrus.network.whole import Whole, place, request_of
+from walrus.port import Bounds, Port
 
 SMALL, LARGE = 1_000, 3_000  # bytes: the longest content in SQLite here; a blob whose slivers are files
 
@@ -141,9 +142,9 @@ class NodeCase(ShardCase):
         """Return what a handover needs of a node; it collects what it posts."""
         node = types.SimpleNamespace(name="a", store=self.store, ledger=self.ledger, sides=sides, posted=[], vouched=[])
         node.caught_up, node.judges, node.repairs = True, self.judges, judge.Room(10_000_000)
-        node.unattested, node.state = set[bytes](), types.SimpleNamespace(entering=False)
+        node.unattested, node.state = set[bytes](), types.SimpleNamespace(base=self.ledger.blobs.base)
         node.peers = types.SimpleNamespace(seats=lambda owners, faults: self.seats)
-        node.port = types.SimpleNamespace(shape=client.Shape(1))
+        node.port = Port(mock.AsyncMock(), client.Shape(1), Bounds())
 
         async def vouch(kind: str, filled: shard.Shard, request: bytes) -> list[bytes]:
             node.vouched.append(request[1:33])

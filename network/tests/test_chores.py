@@ -90,8 +90,8 @@ class DiskCase(unittest.IsolatedAsyncioTestCase):
             for part in (METADATA, PRIMARY, SECONDARY):
                 self.store.put(1, 0, name, part, b"content", None)
         self.node: Any = types.SimpleNamespace(name="a", store=self.store, sides={}, caught_up=False)
-        self.node.ledger = types.SimpleNamespace(blobs=types.SimpleNamespace(over=lambda count: []))
-        self.node.state = types.SimpleNamespace(entering=False)
+        self.node.ledger = types.SimpleNamespace(blobs=types.SimpleNamespace(over=lambda count: [], base=None))
+        self.node.state = types.SimpleNamespace(base=None)
         self.node.settings = types.SimpleNamespace(scrub=0, scrub_rate=10**9)
         self.enterContext(mock.patch.object(scrub, "PAUSE", 0.05))
         self.scrub = Scrub(self.node)
@@ -176,7 +176,7 @@ class Expiry(DiskCase):
     async def test_expired_blobs_are_dropped_a_few_at_a_time(self) -> None:
         """Otherwise a node on a busy machine stops for half a second, again and again, after an epoch change."""
         self.node.ledger, over = mock.Mock(epoch=1), [*NAMES, *(bytes([9, it]) * 16 for it in range(150))]
-        self.node.ledger.blobs.over = lambda count: over[:count]
+        self.node.ledger.blobs.over, self.node.state.base = lambda count: over[:count], self.node.ledger.blobs.base
         self.node.ledger.blobs.drop = lambda dropped: over.__delitem__(slice(len(dropped)))
         with mock.patch.object(self.store, "expire", wraps=self.store.expire) as expire:
             await self.scrub.expire()
@@ -186,15 +186,29 @@ class Expiry(DiskCase):
 
 class Loading(DiskCase):
     async def test_rows_of_expired_blobs_are_dropped_once_no_checkpoint_is_being_loaded(self) -> None:
+        """Entries that are being applied keep nobody waiting, as there may be many of them."""
         over, dropped, blobs = [NAMES[:2], []], list[list[bytes]](), self.node.ledger.blobs
         blobs.over, blobs.drop = lambda count: over.pop(0), dropped.append
-        self.node.ledger.epoch, self.node.state.entering = 1, True
+        self.node.ledger.epoch, self.node.state.entering, blobs.base = 1, True, object()  # which reads meanwhile
         dropping = asyncio.create_task(self.scrub.expire())
         await asyncio.sleep(0.2)
         self.assertEqual((dropped, dropping.done()), ([], False))
-        self.node.state.entering = False
+        blobs.base = self.node.state.base
         await asyncio.wait_for(dropping, 30)
         self.assertEqual(dropped, [NAMES[:2]])
+
+    async def test_a_node_that_still_reads_the_ledger_does_not_say_that_it_is_away(self) -> None:
+        made = mock.MagicMock(turn=mock.AsyncMock(), until=mock.AsyncMock(return_value=False), watched=asyncio.sleep)
+        made.follow.return_value = 0
+        for entering, silence, why in (
+            (True, 9.0, "is still being read"),
+            (False, 1.0, "is still"),
+            (False, 9.0, "is away"),
+        ):
+            made.state.entering, made.silence.return_value = entering, silence
+            with mock.patch("ssl.create_default_context", side_effect=EOFError), self.assertRaises(EOFError):
+                await Node.open(made)
+            self.assertIn(f": the ledger {why}", self.said.getvalue().splitlines()[-1])
 
 
 class Scrubs(DiskCase):

@@ -57,6 +57,7 @@ class Planned(LedgerCase):
             self.assertRegex(
                 said, "there is no plan, from place" if length == "off" else rf"each has {length} .*, from place"
             )
+            self.assertEqual("so epoch 26 is due now" in said, since == before)
 
     async def plan(self, length: str, since: str, yes: bool = False) -> str:
         words = argparse.Namespace(folder=self.folder, json=False, yes=yes, length=length, since=since)

@@ -1,17 +1,21 @@
 """What a scrub reads, finds and drops of a shard."""
 import asyncio
 import contextlib
+import errno
 import io
 import json
+import shutil
 import time
 import types
 import unittest
+from typing import Any
 from unittest import mock
 
 from harness import lacking
-from shard_case import LARGE, NodeCase
+from shard_case import LARGE, SMALL, NodeCase
 from walrus.frames import METADATA, PRIMARY
 from walrus.network import handover, recovery, scrub
+from walrus.network.files import Files
 from walrus.network.ledger import OPERATOR, Entry, Ledger, entry_key
 
 
@@ -147,6 +151,53 @@ class Missing(NodeCase):
             self.assertEqual(await recovery.settle(self.here, 0, self.names), 0)
             self.assertEqual(any(it.asked for it in self.seats), name == self.names[1])
             self.assertEqual((len(self.files()), await self.lacked()), (6, {}))
+
+    async def test_if_one_of_the_folders_is_lost_the_others_stay(self) -> None:
+        assert self.store
+        name = self.names[0]
+        lost = self.store.files.path(name.hex()).parent
+        self.close()
+        shutil.rmtree(lost)
+        with self.assertRaisesRegex(OSError, r"if only some of its folders 00 to ff are lost, make them \(mkdir"):
+            self.open()
+        lost.mkdir()
+        self.open()
+        self.here = self.node({0: {0: self.shard}})
+        await scrub.Scrub(self.here).sweep()
+        self.assertEqual(await self.lacked(), {0: {name: True}})
+        self.assertEqual(await recovery.settle(self.here, 0, self.names), 0)
+        self.assertEqual((len(self.files()), await self.lacked()), (6, {}))
+
+    async def test_nothing_is_fetched_for_a_folder_that_cannot_be_read_or_written(self) -> None:
+        """Otherwise all of its blobs are, in each round, for as long as its disk is away, or another user's."""
+        assert self.store
+        self.enterContext(mock.patch.object(recovery, "SMALL", SMALL))
+        here, folder, small = self.node({0: {0: self.shard}}), self.store.files.folder, await self.lacks(60)
+        away = folder.rename(folder.with_name("away"))
+        folder.mkdir()  # where it was mounted
+        await self.scrub.sweep()
+        self.assertEqual((await self.lacked())[0], {name: True for name in self.names} | {small: False})
+        self.assertEqual(await recovery.settle(here, 0, [small]), 0)
+        for seat in self.seats:
+            seat.asked.clear()
+        for place, code in (
+            ("FileNotFoundError", errno.ENOENT),
+            ("os.scandir", errno.EIO),
+            ("tempfile.TemporaryFile", errno.EACCES),
+        ):
+            fault = OSError(code, "it is told to fail", str(folder))
+            failing: Any = mock.patch(place, side_effect=fault) if "." in place else contextlib.nullcontext()
+            with failing:
+                for _ in range(2):
+                    self.assertEqual(await recovery.settle(here, 0, self.names), 3)
+            self.assertEqual([it.asked for it in self.seats], [[]] * 4)
+            lines = [it for it in self.said.getvalue().splitlines() if f"[Errno {code}]" in it and str(folder) in it]
+            self.assertEqual(len(lines), 1)
+            Files(folder)
+        shutil.rmtree(folder)
+        away.rename(folder)
+        self.assertEqual(await recovery.settle(here, 0, self.names), 0)
+        self.assertEqual(([it.asked for it in self.seats], await self.lacked()), ([[]] * 4, {}))
 
     async def test_nothing_is_said_in_a_handover_before_missing_files_are_known(self) -> None:
         async def wait(node: object) -> None:

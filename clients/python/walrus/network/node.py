@@ -17,7 +17,7 @@ from ..port import PIECE, Bounds, Said
 
 from . import certificates, handover
 from .figures import NodePort
-from .follower import Recorders, Refused, Unreachable, View
+from .follower import AWAY, Recorders, Refused, Unreachable, View
 from .groups import first_of
 from .intake import Intake
 from .judge import PARTS, Busy, Clash, Judges, Room
@@ -70,7 +70,8 @@ class Node(View):
         await self.turn()
         self.tasks.append(asyncio.create_task(self.watched(self.follow())))
         if not await self.until(lambda _: self.caught_up or self.failed.done(), 5):
-            print(f"{self.name}: the ledger is away; this serves what is on the disk", file=sys.stderr, flush=True)
+            why = "is away" if self.silence() > AWAY and not self.state.entering else "is still being read"
+            print(f"{self.name}: the ledger {why}; this serves what is on the disk", file=sys.stderr, flush=True)
         context = ssl.create_default_context(ssl.Purpose.CLIENT_AUTH)
         context.load_cert_chain(self.settings.certificate, self.settings.key)
         port = await self.port.listen(self.settings.host, self.settings.port, context)

@@ -231,8 +231,8 @@ async def plan(words: argparse.Namespace) -> int:
         epoch = network.ledger.epoch
         told = f"epoch {epoch} counts from {begins}, and each has {words.length} ({minutes:,} minutes)"
         if minutes and (minutes < SHORT or not 0 <= late < 60 * minutes):
-            due = f"{told}: so epoch {epoch + late // 60 // minutes:.0f} is due now"
-            must_agree(f"{due}: post this plan?", words, f"{due}: no plan was posted", "posts it")
+            told += f": so epoch {epoch + late // 60 // minutes:.0f} is due now"
+            must_agree(f"{told}: post this plan?", words, f"{told}: no plan was posted", "posts it")
         fields = [epoch, int(since.timestamp()) // 60, minutes] if minutes else [0, 0, 0]
         place = await network.recorders.post(entry_key(OPERATOR, "calendar", *fields))
     text = told if minutes else "there is no plan"

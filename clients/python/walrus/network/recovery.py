@@ -4,8 +4,10 @@ import contextlib
 import dataclasses
 import functools
 import itertools
+import os
 import sqlite3
 import sys
+import tempfile
 from collections.abc import AsyncIterator, Awaitable, Callable, Collection, Iterable, Iterator, Sequence
 from typing import TYPE_CHECKING, NamedTuple, Optional
 
@@ -18,7 +20,7 @@ from .groups import several
 from .judge import Busy, Clash, name_of
 from .ledger import ACK, ATTEST
 from .peers import Seat
-from .shard import LAST, Shard, pages
+from .shard import LAST, SMALL, Shard, pages
 
 if TYPE_CHECKING:
     from .node import Node
@@ -99,18 +101,18 @@ async def passing(who: str, what: str, seconds: float = 0) -> AsyncIterator[None
 
 
 async def by_lanes(node: "Node", lacks: Iterable[Lack], step: Callable[[Lack], Awaitable[None]]) -> None:
-    """Run a step for each blob, several at once. A step that fails is reported; a later round tries that blob again."""
+    """Run a step for each blob, several at once. If steps fail, one is reported in a minute for each kind of fault, as
+    they may be as many as the blobs; a later round tries them again."""
 
     async def take(lack: Lack) -> None:
         await asyncio.sleep(0)  # a turn for others, as possibly no step waits for anything
         try:
-            async with passing(lack.shard.title, lack.identifier.hex()):
-                await step(lack)
-        except (Clash, sqlite3.Error):
-            raise  # a hash collision or a torn database: the node must stop
-        except Exception as fault:  # whatever other nodes reply, this one goes on
-            said = f"{lack.identifier.hex()}: {type(fault).__name__}: {fault}"
-            print(f"{lack.shard.title}: {said}", file=sys.stderr, flush=True)
+            await step(lack)
+        except Exception as fault:  # whatever other nodes reply, or the system refuses for now, this one goes on
+            if isinstance(fault, (Clash, sqlite3.Error)) and not isinstance(fault, sqlite3.OperationalError):
+                raise  # a hash collision or a torn database: the node must stop
+            kind = type(fault).__name__
+            node.port.tell(f"{lack.shard.title}: {lack.identifier.hex()}: {kind}: {fault}", kind)
 
     await several(map(take, lacks), max(1, min(LANES, SEATS // node.port.shape.shards)))
 
@@ -264,6 +266,10 @@ async def fill(node: "Node", shard: Shard, identifier: bytes, late: bool = False
         if pages(FRONT + count * symbol for count in counts) > shard.free_pages(LAST):  # it could not be kept
             tell_full(node)
             return False
+        if FRONT + symbol * max(counts, default=0) > SMALL:  # a file, which its folder must take: else this raises
+            folder = node.store.files.path(identifier.hex()).parent
+            with os.scandir(folder) as names, tempfile.TemporaryFile(dir=folder):
+                next(names, None)
         asked_in, are_left_out = rounds(node, own, late)
         for side in asked_in:
             wanted = {part: client.write_frame(targets[part]) for part in lacks & {*shard.lacks(identifier)}}

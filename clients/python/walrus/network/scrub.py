@@ -132,7 +132,7 @@ class Scrub:
             store.expire(over, self.node.ledger.epoch)
             if not await store.durable():
                 raise OSError(f"the disk does not take the removal of {len(over)} expired blobs")
-            while self.node.state.entering:  # while a thread loads a checkpoint, nobody else may write to the ledger
+            while blobs.base is not self.node.state.base:  # a thread loads a checkpoint: nobody else may write
                 await asyncio.sleep(PAUSE)
             blobs.drop(over)
 
@@ -158,8 +158,9 @@ class Scrub:
                         raise OSError(f"the disk does not take marks of {len(rows)} missing files")
         self.compared.set()
         if lost:
-            told = f"{lost} files are missing in {store.files.folder}, as if not all of it had been copied"
-            print(f"{self.node.name}: {told}; they are recovered from the others", file=sys.stderr, flush=True)
+            told = f"{lost} files are missing in {store.files.folder}, or its folders cannot be read"
+            told += ": was all of it copied or mounted, and who owns it? What is lost is recovered from the others"
+            print(f"{self.node.name}: {told}", file=sys.stderr, flush=True)
         while store.sweep():
             if not await store.durable():
                 raise OSError("the disk does not take the removal of parts")

@@ -95,7 +95,8 @@ class Store(Staged):
             raise OSError(f"the database {self.path} is new, and {folder} has files of another one: {words}")
         has_names = self.base.execute(f"{is_there} WHERE name = 'of_file'").fetchone()
         if has_names and self.base.execute(named).fetchone() and len([*folder.glob(digits)]) < 256:
-            words = "stop the node, and copy or mount all of it; if it is lost, move the database away too"
+            words = "stop the node, and copy or mount all of it; if only some of its folders 00 to ff are lost, make"
+            words += " them (mkdir, with the owner of the others); if all of it is lost, move the database away too"
             raise OSError(f"{self.path} names files, and {folder} is not complete: {words} (network/OPERATING.md)")
 
     def note(self, revision: int, epoch: int, shard: int, request: bytes, reply: bytes) -> None:
