@@ -7,6 +7,7 @@ from unittest import mock
 
 from founding_case import FoundingCase
 from walrus.network import TOP, certificates
+from walrus.network.founding import Founding
 from walrus.network.local import Local
 from walrus.network.machine import Unfounded
 from walrus.network.transfers import Failure
@@ -103,6 +104,8 @@ class Changed(FoundingCase):
         await self.says("renew", self.folder)
         late.write_bytes(before)
         empty.write_bytes(b"")
+        with mock.patch.object(Founding, "renew", return_value=[]):
+            await self.says("renew", self.folder, "authority", "etcd-authority")  # reads no copy of theirs
         said = await self.says("renew", self.folder)
         self.assertEqual([path for path in (authority, late, empty) if f"{path} is new\n" in said], [late, empty])
         copies = {path.read_bytes() for path in self.folder.rglob("authority.crt")}
@@ -135,6 +138,21 @@ class Changed(FoundingCase):
         await self.says("renew", self.folder)
         self.assertEqual([path for path in before if certificates.early(certificates.read(path))], [])
         self.assertIn("no certificate expires so soon", await self.says("renew", self.folder))
+
+    async def test_what_others_have_signed_is_not_renewed(self) -> None:
+        """A gateway's certificate for HTTPS is beside its settings, and is of another authority."""
+        await self.found()
+        office = self.folder / "hosts" / "office"
+        certificates.make_authority(self.folder.parent / "foreign")
+        certificates.make(office / "web", self.folder.parent / "foreign", "blobs.example", ["blobs.example"], 20)
+        own = [office / "web.crt", office / "web.key"]
+        before = [it.read_bytes() for it in own]
+        self.assertIn("no certificate expires so soon", await self.says("renew", self.folder))
+        with self.assertRaisesRegex(Unfounded, "have signed no certificate of web: nothing was renewed$"):
+            await self.says("renew", self.folder, "gate", "web")
+        said = await self.says("renew", self.folder, "--within", 9_999)
+        self.assertEqual((said.count("gate.crt"), said.count("web.crt")), (1, 0))
+        self.assertEqual([it.read_bytes() for it in own], before)
 
     def faults_of(self, path: pathlib.Path) -> list[str]:
         return certificates.faults_of(path, path.with_suffix(".key"), self.folder / "authority.crt", None)
