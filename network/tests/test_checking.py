@@ -128,7 +128,8 @@ class Loaded(unittest.IsolatedAsyncioTestCase):
             )
             words = certificates.common_name(known), certificates.names_of(known), 9.0
             certificates.make(path, self.folder / by, *words)
-        await local.start_ledger()
+        with mock.patch.object(local, "renew"):  # it would at a start
+            await local.start_ledger()
         await local.start_node("node-0")
         access = Access.within(self.folder, "publisher")
         with contextlib.redirect_stderr(io.StringIO()) as said, contextlib.redirect_stdout(io.StringIO()) as ready:

@@ -1,4 +1,5 @@
 """The files of a network's machines as nodes come and go and certificates are renewed."""
+import contextlib
 import datetime
 import json
 import pathlib
@@ -153,6 +154,41 @@ class Changed(FoundingCase):
         said = await self.says("renew", self.folder, "--within", 9_999)
         self.assertEqual((said.count("gate.crt"), said.count("web.crt")), (1, 0))
         self.assertEqual([it.read_bytes() for it in own], before)
+
+    async def test_a_network_on_one_machine_renews_at_a_start_what_its_authorities_have_signed(self) -> None:
+        local, web, foreign = Local(self.folder), self.folder / "web", self.folder.parent / "foreign"
+        await local.found()
+        await local.add_node("node-0")
+        certificates.make_authority(foreign)
+        certificates.make(web, foreign, "blobs.example", ["blobs.example"], 9)
+        authorities = [self.folder / it for it in ("authority", "etcd-authority")]
+        own = [self.folder / it for it in ("node-0", "recorder-0", "etcd", "users/operator", "users/publisher")]
+        known = {it: certificates.read(it.with_suffix(".crt")) for it in own}
+        fast = mock.patch.object(certificates, "EARLIER", datetime.timedelta(days=-9_999))
+        for ends, days in ((contextlib.nullcontext(), 9.0), (contextlib.nullcontext(), -0.01), (fast, 19_999.0)):
+            with self.subTest(days=days), ends:
+                for path in authorities:
+                    certificates.make_authority(path, days)
+                for path, it in known.items():
+                    by = authorities[path.name == "etcd"]
+                    certificates.make(path, by, certificates.common_name(it), certificates.names_of(it), days)
+            before = [web.with_suffix(it).read_bytes() for it in (".crt", ".key")]
+            await local.found()
+            for path, it in known.items():
+                by, name = authorities[path.name == "etcd"].with_suffix(".crt"), certificates.common_name(it)
+                files = path.with_suffix(".crt"), path.with_suffix(".key")
+                self.assertEqual(certificates.faults_of(*files, by, name), [])
+                made = certificates.read(files[0])
+                self.assertEqual(
+                    (certificates.names_of(made), certificates.days_left(made) > 800), (certificates.names_of(it), True)
+                )
+            self.assertTrue(
+                all(certificates.days_left(certificates.read(it.with_suffix(".crt"))) > 3_000 for it in authorities)
+            )
+            self.assertEqual([web.with_suffix(it).read_bytes() for it in (".crt", ".key")], before)
+            all_files = {it: it.read_bytes() for it in self.folder.rglob("*.*")}
+            await local.found()
+            self.assertEqual({it: it.read_bytes() for it in all_files}, all_files)
 
     def faults_of(self, path: pathlib.Path) -> list[str]:
         return certificates.faults_of(path, path.with_suffix(".key"), self.folder / "authority.crt", None)

@@ -80,7 +80,9 @@ class Founding:
             raise Unfounded(f"{folder} has no {PLAN}: walrus-net found makes it")
         self.plan: dict[str, Any] = json.loads(path.read_text()) if plan is None else plan
         if "hosts" not in self.plan:
-            raise Unfounded(f"{folder} is a network on one machine: use network/up --add to add nodes")
+            raise Unfounded(
+                f"{folder} is a network on one machine, which network/up renews at each start and adds to (--add)"
+            )
 
     @classmethod
     def begin(cls, folder: pathlib.Path, plan: dict[str, Any], days: float) -> "Founding":
