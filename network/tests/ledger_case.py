@@ -247,6 +247,9 @@ class Memory(Etcd):
         self.pieces[place, number] = piece
         await self.fails("behind", call)
 
+    async def count_pieces(self, place: int) -> int:
+        return sum(it > place for it, _ in self.pieces)
+
     async def piece(self, place: int, number: int) -> bytes:
         await self.fails("before")
         if (place, number) not in self.pieces:

@@ -54,6 +54,23 @@ class Check(FoundingCase):
                 self.path.write_text(self.text.replace(*change))
                 self.assertIn(wanted, await self.says("check", self.path, status=1))
 
+    async def test_a_gateway_that_others_reach_without_tokens_is_told_before(self) -> None:
+        """Such as one whose machine was replaced: it would start, and anyone could read."""
+        office = self.folder / "hosts" / "office"
+        shutil.copytree(office, self.etc, dirs_exist_ok=True)
+        path, tokens = self.etc / "gate.toml", self.etc / "tokens.json"
+        text, here = path.read_text(), 'host = "127.0.0.1"\n'
+        self.assertIn(here, text)
+        for change, warnings in ((here, 0), ('host = "0.0.0.0"\n', 1), (here + 'proxies = ["127.0.0.1"]\n', 1)):
+            with self.subTest(change=change):
+                path.write_text(text.replace(here, change))
+                _, wrong, later = check(path)
+                self.assertEqual((wrong, len(later)), ([], warnings), later)
+                self.assertTrue(all(f"anyone who reaches it may read, as {tokens} is not there" in it for it in later))
+                tokens.write_text("{}")
+                self.assertEqual(check(path)[1:], ([], []))
+                tokens.unlink()
+
     async def test_a_certificate_that_ends_is_told_before_and_wrong_behind(self) -> None:
         for days, faults, soon in ((5.0, 0, 1), (-0.01, 1, 0)):
             certificates.make(self.etc / "alpha", self.folder / "authority", "alpha", ["alpha"], days)
@@ -128,7 +145,8 @@ class Loaded(unittest.IsolatedAsyncioTestCase):
             )
             words = certificates.common_name(known), certificates.names_of(known), 9.0
             certificates.make(path, self.folder / by, *words)
-        await local.start_ledger()
+        with mock.patch.object(local, "renew"):  # it would at a start
+            await local.start_ledger()
         await local.start_node("node-0")
         access = Access.within(self.folder, "publisher")
         with contextlib.redirect_stderr(io.StringIO()) as said, contextlib.redirect_stdout(io.StringIO()) as ready:

@@ -266,7 +266,7 @@ class Steps(unittest.IsolatedAsyncioTestCase):
     async def test_each_call_of_who_keeps_fails_in_turn(self) -> None:
         quiet, within = contextlib.redirect_stderr(io.StringIO()), 0
         self.enterContext(mock.patch.object(keeping, "LEAST", 1))
-        with mock.patch.multiple(recorder, POLL=0.01, GRACE=0.0), mock.patch.object(keeping, "PAUSE", 0.0), quiet:
+        with mock.patch.object(recorder, "POLL", 0.01), mock.patch.multiple(keeping, PAUSE=0.0, GRACE=0.0), quiet:
             with mock.patch.object(keeping.asyncio, "sleep", self.no_sleep):
                 for seed in range(12):
                     memory = Memory()

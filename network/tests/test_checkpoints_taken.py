@@ -169,7 +169,7 @@ class Taking(RecorderCase):
         pieces = [*map(zlib.compress, ahead.state.written())]
 
         class Told:
-            said, aclose = "it is too slow", mock.AsyncMock()
+            said, aclose, pieces = "it is too slow", mock.AsyncMock(), list[bytes]()
 
             async def follow(self, *_: object) -> AsyncIterator[News]:
                 yield News(ahead.chain, [], ahead.chain.place, ahead.state.identity, pieces)

@@ -1,4 +1,5 @@
 """The files of a network's machines as nodes come and go and certificates are renewed."""
+import contextlib
 import datetime
 import json
 import pathlib
@@ -7,6 +8,7 @@ from unittest import mock
 
 from founding_case import FoundingCase
 from walrus.network import TOP, certificates
+from walrus.network.founding import Founding
 from walrus.network.local import Local
 from walrus.network.machine import Unfounded
 from walrus.network.transfers import Failure
@@ -103,6 +105,8 @@ class Changed(FoundingCase):
         await self.says("renew", self.folder)
         late.write_bytes(before)
         empty.write_bytes(b"")
+        with mock.patch.object(Founding, "renew", return_value=[]):
+            await self.says("renew", self.folder, "authority", "etcd-authority")  # reads no copy of theirs
         said = await self.says("renew", self.folder)
         self.assertEqual([path for path in (authority, late, empty) if f"{path} is new\n" in said], [late, empty])
         copies = {path.read_bytes() for path in self.folder.rglob("authority.crt")}
@@ -135,6 +139,56 @@ class Changed(FoundingCase):
         await self.says("renew", self.folder)
         self.assertEqual([path for path in before if certificates.early(certificates.read(path))], [])
         self.assertIn("no certificate expires so soon", await self.says("renew", self.folder))
+
+    async def test_what_others_have_signed_is_not_renewed(self) -> None:
+        """A gateway's certificate for HTTPS is beside its settings, and is of another authority."""
+        await self.found()
+        office = self.folder / "hosts" / "office"
+        certificates.make_authority(self.folder.parent / "foreign")
+        certificates.make(office / "web", self.folder.parent / "foreign", "blobs.example", ["blobs.example"], 20)
+        own = [office / "web.crt", office / "web.key"]
+        before = [it.read_bytes() for it in own]
+        self.assertIn("no certificate expires so soon", await self.says("renew", self.folder))
+        with self.assertRaisesRegex(Unfounded, "have signed no certificate of web: nothing was renewed$"):
+            await self.says("renew", self.folder, "gate", "web")
+        said = await self.says("renew", self.folder, "--within", 9_999)
+        self.assertEqual((said.count("gate.crt"), said.count("web.crt")), (1, 0))
+        self.assertEqual([it.read_bytes() for it in own], before)
+
+    async def test_a_network_on_one_machine_renews_at_a_start_what_its_authorities_have_signed(self) -> None:
+        local, web, foreign = Local(self.folder), self.folder / "web", self.folder.parent / "foreign"
+        await local.found()
+        await local.add_node("node-0")
+        certificates.make_authority(foreign)
+        certificates.make(web, foreign, "blobs.example", ["blobs.example"], 9)
+        authorities = [self.folder / it for it in ("authority", "etcd-authority")]
+        own = [self.folder / it for it in ("node-0", "recorder-0", "etcd", "users/operator", "users/publisher")]
+        known = {it: certificates.read(it.with_suffix(".crt")) for it in own}
+        fast = mock.patch.object(certificates, "EARLIER", datetime.timedelta(days=-9_999))
+        for ends, days in ((contextlib.nullcontext(), 9.0), (contextlib.nullcontext(), -0.01), (fast, 19_999.0)):
+            with self.subTest(days=days), ends:
+                for path in authorities:
+                    certificates.make_authority(path, days)
+                for path, it in known.items():
+                    by = authorities[path.name == "etcd"]
+                    certificates.make(path, by, certificates.common_name(it), certificates.names_of(it), days)
+            before = [web.with_suffix(it).read_bytes() for it in (".crt", ".key")]
+            await local.found()
+            for path, it in known.items():
+                by, name = authorities[path.name == "etcd"].with_suffix(".crt"), certificates.common_name(it)
+                files = path.with_suffix(".crt"), path.with_suffix(".key")
+                self.assertEqual(certificates.faults_of(*files, by, name), [])
+                made = certificates.read(files[0])
+                self.assertEqual(
+                    (certificates.names_of(made), certificates.days_left(made) > 800), (certificates.names_of(it), True)
+                )
+            self.assertTrue(
+                all(certificates.days_left(certificates.read(it.with_suffix(".crt"))) > 3_000 for it in authorities)
+            )
+            self.assertEqual([web.with_suffix(it).read_bytes() for it in (".crt", ".key")], before)
+            all_files = {it: it.read_bytes() for it in self.folder.rglob("*.*")}
+            await local.found()
+            self.assertEqual({it: it.read_bytes() for it in all_files}, all_files)
 
     def faults_of(self, path: pathlib.Path) -> list[str]:
         return certificates.faults_of(path, path.with_suffix(".key"), self.folder / "authority.crt", None)

@@ -11,8 +11,9 @@ from unittest import mock
 from ledger_case import FOUNDED, FOUR, Chain, LedgerCase, Memory, registration
 from walrus import client
 from walrus.frames import answer
-from walrus.network import blobs, intake, keeping, recorder, recording, shard
+from walrus.network import blobs, checkpoint, intake, keeping, recorder, recording, shard
 from walrus.network.entries import ACK, ATTEST, OPERATOR, Entry, entry_key
+from walrus.network.etcd import Batch
 from walrus.network.keeping import Keeper
 from walrus.network.ledger import ADDRESSES, Ledger
 from walrus.network.node import Node
@@ -90,7 +91,7 @@ class Waits(unittest.IsolatedAsyncioTestCase):
         await self.post(*(f"{NODES[3]}/attest/2/{number:064x}" for number in range(50)))
         self.memory.leading = False
         self.assertFalse(await self.crowded(first, 760))  # it is left to the recorder beside etcd's leader
-        self.keeper.crowded[first] -= keeping.GRACE
+        self.keeper.since -= keeping.GRACE
         self.assertTrue(await self.crowded(first, 760))  # which seems to have ended
         last = self.memory.marked[-1]
         self.assertEqual((last.epoch, last.place, self.memory.kept), (1, self.recorder.chain.place, {}))
@@ -116,10 +117,55 @@ class Waits(unittest.IsolatedAsyncioTestCase):
         return min(self.memory.kept, default=first + 99) > first + 1
 
 
+class Writers(unittest.IsolatedAsyncioTestCase):
+    """One recorder writes a checkpoint slowly, while another one, which has read more, looks all the time."""
+
+    async def test_the_others_wait_for_as_long_as_pieces_come_and_replace_a_writer_that_ends(self) -> None:
+        asyncio.get_running_loop().set_debug(False)
+        self.enterContext(mock.patch.multiple(keeping, GRACE=0.3, LEAST=10))
+        self.enterContext(mock.patch.object(checkpoint, "LONGEST", 300))
+        for full in (True, False):  # within an epoch, and after a turn
+            for ends in (False, True):
+                with self.subTest(full=full, ends=ends):
+                    places, last = await self.written(full, ends)
+                    self.assertEqual((len(places), last), (1 + ends, max(places)))
+
+    async def written(self, full: bool, ends: bool) -> tuple[set[int], int]:
+        """Returns the places of all pieces once a checkpoint is there, and its place."""
+        memory, put = Memory(), Memory.put_piece
+        first, other = recorder.Recorder(memory), recorder.Recorder(memory)
+        for made in (first, other):
+            self.addCleanup(made.state.close)
+            await made.catch_up()
+        texts = [FOUNDED, *([] if full else turn(1)), *(registration("x", it, 9) for it in range(30))]
+        for text in texts:
+            self.assertTrue(await first.step(Batch(first.chain, [text])))
+        memory.used, memory.leading = 760 * full, False
+
+        async def slow(*words: Any) -> None:
+            await asyncio.sleep(0.1)
+            await put(memory, *words)
+
+        self.enterContext(mock.patch.object(memory, "put_piece", slow))
+        writing, beside = asyncio.create_task(Keeper(first, 1e9).write(None)), Keeper(other, 1e9)
+        await asyncio.sleep(0)
+        self.assertTrue(await first.step(Batch(first.chain, [registration("x", 30, 9)])))
+        await other.catch_up()
+        while not memory.marked:
+            await beside.look()
+            await asyncio.sleep(0.01)
+            if ends and len(memory.pieces) > 1:
+                writing.cancel()
+        return {place for place, _ in memory.pieces}, memory.marked[-1].place
+
+
 class Told(LedgerCase):
-    async def test_etcd_tells_its_quota_and_who_leads(self) -> None:
-        self.assertEqual(await self.recorders[0].etcd.quota(), 2**30)
-        self.assertTrue(await self.recorders[0].etcd.leads())
+    async def test_etcd_tells_its_quota_and_who_leads_and_how_many_pieces_follow(self) -> None:
+        etcd = self.recorders[0].etcd
+        self.assertEqual((await etcd.quota(), await etcd.leads()), (2**30, True))
+        for number in range(3):
+            await etcd.put_piece(5, number, zlib.compress(b"x"))
+        self.assertEqual([await etcd.count_pieces(it) for it in (4, 5)], [3, 0])
 
 
 class Addresses(unittest.TestCase):

@@ -1,20 +1,25 @@
 """Followers of a recorder and posters to it, whatever it answers."""
 import asyncio
+import base64
 import contextlib
+import hashlib
 import json
 import pathlib
 import shutil
 import ssl
 import tempfile
 import unittest
+import zlib
 from unittest import mock
 
 from aiohttp import web
-from ledger_case import LedgerCase
-from walrus.network import follower
+from ledger_case import FOUNDED, LedgerCase, registration
+from walrus.network import checkpoint, follower
+from walrus.network.client import Network
 from walrus.network.follower import Parted, Refused, Unreachable, View
 from walrus.network.entries import Chain, Entry
 from walrus.network.local import Local
+from walrus.network.state import State
 
 
 class Streams(LedgerCase):
@@ -46,6 +51,9 @@ class Streams(LedgerCase):
         response = web.StreamResponse(status=status)
         await response.prepare(request)
         for line in lines:
+            if isinstance(line, float):
+                await asyncio.sleep(line)
+                continue
             await response.write((line if isinstance(line, bytes) else json.dumps(line).encode()) + b"\n")
         return response
 
@@ -85,6 +93,52 @@ class Streams(LedgerCase):
                 await asyncio.wait_for(view.follow(), 20)
             with self.assertRaisesRegex(Unreachable, "the ledger is not followed any more: " + said.strip("^$")):
                 await waits
+
+    async def test_who_begins_to_follow_waits_for_as_long_as_more_comes(self) -> None:
+        """A recorder may send a checkpoint or entries for longer than any deadline. One that stops, or breaks off at
+        the same place again and again, is given up."""
+        made, texts = State(), [FOUNDED, *(registration("x", it) for it in range(20))]
+        self.addCleanup(made.close)
+        end = self.birth.behind(texts)
+        for entry in self.birth.followed(texts):
+            made.ledger.apply(entry)
+        made.identity = "00" * 32
+        made.save(end)
+        with mock.patch.object(checkpoint, "LONGEST", 200):
+            pieces = [*made.written()]
+        slow: list[object] = []
+        for number, text in enumerate(texts, 1):
+            chain = self.birth.behind(texts[:number])
+            slow += [0.2, {"entries": [text], "digest": chain.digest.hex()}]
+        begun = self.first(self.birth) | {"head": end.place}
+        told = self.first(end) | {"head": end.place, "place": end.place, "pieces": len(pieces)}
+        told["state"] = hashlib.sha256(b"".join(pieces)).hexdigest()
+        parts = [{"piece": base64.b64encode(zlib.compress(it)).decode()} for it in pieces]
+        slowly = [it for part in parts for it in (0.2, part)]
+        self.assertGreater(len(parts), 12)
+        for lines, comes in (
+            ([begun, *slow], True),
+            ([told, *slowly], True),
+            ([begun, *slow[:6]], False),
+            ([told, *slowly[:6]], False),
+            ([], False),
+        ):
+            with self.subTest(lines=len(lines), comes=comes):
+                self.assertEqual(await self.enters((200, [*lines, 99.0])), comes)
+        self.assertFalse(await self.enters(*[(200, [told, *parts[:9]])] * 99))
+
+    async def enters(self, *streams: tuple[int, list[object]]) -> bool:
+        """Returns whether a network begins to follow recorders that send this, with shorter deadlines."""
+        self.streams, until, made = [*streams], View.until, Network.__new__(Network)
+        View.__init__(made, self.user("publisher"))
+        made.late, made.peers, made.walrus = set(), mock.AsyncMock(), mock.Mock()
+        short = {20: 2.0, 60: 1.5}
+        with mock.patch.object(View, "until", lambda it, holds, seconds: until(it, holds, short[seconds])):
+            try:
+                async with asyncio.timeout(30), made:
+                    return made.caught_up
+            except Unreachable:
+                return False
 
     async def test_a_tail_goes_to_the_recorder_that_asked_for_it(self) -> None:
         """Although a post, which a restore answers with 503, has turned to another one meanwhile."""

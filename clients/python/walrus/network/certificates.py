@@ -144,6 +144,11 @@ def is_signed(certificate: x509.Certificate, authority: x509.Certificate) -> boo
     return certificate.issuer == authority.subject
 
 
+def signer(certificate: x509.Certificate, authorities: Iterable[pathlib.Path]) -> Optional[pathlib.Path]:
+    """Returns which of these authorities, of which PATH.crt is read, has signed a certificate; None if others did."""
+    return next((it for it in authorities if is_signed(certificate, read(it.with_name(f"{it.name}.crt")))), None)
+
+
 def fault_of_key(key: pathlib.Path, certificate: pathlib.Path) -> str:
     """Returns why OpenSSL does not take a key for a certificate, which is there; an empty text if it does."""
     try:

@@ -8,6 +8,7 @@ from typing import Any
 from . import certificates, tokens, units
 from .certificates import SOON
 from .configuration import Role, Wrong, faults_in, placed, values_of
+from .limits import is_loopback
 from .machine import is_known_to_tls
 from .settings import GatewaySettings, RecorderSettings, Settings
 
@@ -28,13 +29,16 @@ def check(path: pathlib.Path) -> tuple[str, list[str], list[str]]:
         return role, faults, []
     told = placed(ROLES[role], path, values)
     faults += faults_of_places(told) + faults_of_files(told) + faults_of_keys(told) + faults_of_https(told)
+    soon = []
     if role == GatewaySettings.role:
         places = tokens.places(pathlib.Path(told["authority"]).parent, told.get("tokens", ""), told.get("used", ""))
         faults += filter(None, [tokens.fault_of(*places)])
         told |= {"tokens": places[0], "used": places[2]}
+        is_exposed = told.get("proxies") or not is_loopback(told.get("host", GatewaySettings.host))
+        if is_exposed and not places[0].exists():
+            soon.append(f"anyone who reaches it may read, as {places[0]} is not there: bring it back if there was one")
     pairs = [("authority", "certificate", "key", told["name"])]
     pairs += [("etcd_authority", "etcd_certificate", "etcd_key", None)] if "etcd" in told else []
-    soon = []
     for authority, certificate, key, name in pairs:
         own, secret, signer = (pathlib.Path(told[it]) for it in (certificate, key, authority))
         faults += certificates.faults_of(own, secret, signer, name)

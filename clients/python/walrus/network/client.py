@@ -68,12 +68,17 @@ class Network(View):
         self.late, self.behind = set["asyncio.Task[dict[int, str]]"](), collections.Counter[str]()
         self.walrus.few = lambda: self.ledger.faults <= FEW
 
+    @property
+    def come(self) -> tuple[int, int]:
+        """How far the ledger was heard, and how many pieces of a later checkpoint have come."""
+        return self.chain.place if self.chain else 0, len(self.recorders.pieces)
+
     async def __aenter__(self) -> "Network":
-        self.task = asyncio.create_task(self.follow())
+        self.task, come = asyncio.create_task(self.follow()), (0, 0)
         heard = await self.until(lambda _: self.caught_up, 20)
-        while not heard and self.state.entering:  # loading a checkpoint may take long
-            heard = await self.until(lambda _: self.caught_up, 20)
-        if not heard and not (self.chain and await self.until(lambda _: self.caught_up, 60)):  # much may be missing
+        while not heard and (self.state.entering or self.come > come):  # as long as more comes, as it may be much
+            come, heard = self.come, await self.until(lambda _: self.caught_up, 60)
+        if not heard:
             await self.__aexit__()
             raise Unreachable(f"no recorder tells the ledger: {self.recorders.said}")
         return self

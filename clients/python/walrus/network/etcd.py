@@ -196,6 +196,11 @@ class Etcd:
                 return
         raise Failed("another recorder writes a different checkpoint of this place; it may be of another version")
 
+    async def count_pieces(self, place: int) -> int:
+        """Returns the number of pieces of checkpoints after a place."""
+        span = {"key": coded(key_of_piece(place + 1, 0)), "range_end": coded(PIECES + b"~"), "count_only": True}
+        return int((await self.call("kv/range", span)).get("count", 0))
+
     async def piece(self, place: int, number: int) -> bytes:
         """Returns a piece of a checkpoint, compressed; raises `Gone` if it was dropped."""
         if not (found := await self.range(key_of_piece(place, number))):

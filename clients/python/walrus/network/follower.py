@@ -63,15 +63,15 @@ class Recorders:
     """The recorders of a ledger, reached with a certificate, whose name is the poster's. Any of them will do."""
 
     def __init__(self, addresses: Sequence[str], authority: str, certificate: str, key: str):
-        context = ssl.create_default_context(cafile=authority)
+        context, jar = ssl.create_default_context(cafile=authority), aiohttp.DummyCookieJar()
         context.load_cert_chain(certificate, key)
         self.known: list[tuple[str, aiohttp.ClientSession]] = []
         for host, _, port in (it.rpartition(":") for it in addresses):
             connector = aiohttp.TCPConnector(ssl=context, resolver=Resolver(host.strip("[]")), limit=0)
-            words: dict[str, Any] = {"cookie_jar": aiohttp.DummyCookieJar(), "read_bufsize": LONGEST_LINE}
-            session = aiohttp.ClientSession(connector=connector, **words)
+            session = aiohttp.ClientSession(connector=connector, cookie_jar=jar, read_bufsize=LONGEST_LINE)
             self.known.append((f"https://{NAME}:{port}/v1/", session))
         self.at, self.said = random.randrange(len(self.known)), "it is too slow"
+        self.pieces = list[bytes]()  # of a checkpoint, as far as they have come
         self.waiting: list[tuple[str, "asyncio.Future[int]"]] = []
         self.sending: Optional["asyncio.Task[None]"] = None
         self.tail: Callable[[int, int], list[Entry]] = lambda place, count: []  # entries kept here, after a place
@@ -86,10 +86,9 @@ class Recorders:
 
     async def post(self, key: str, seconds: Optional[float] = 20) -> int:
         """Posts an entry under the certificate's name; returns its place, which is the first if it counted before."""
-        taken = self.leave(key)
         try:
             async with asyncio.timeout(seconds):
-                return await taken
+                return await self.leave(key)
         except TimeoutError:
             raise Unreachable(f"no recorder took {key[:100]} within {seconds:g} s: {self.said}") from None
 
@@ -169,16 +168,18 @@ class Recorders:
                 await self.ask("tail", body | {"entries": fitting((it.text for it in entries), MOST_BYTES)}, at)
                 raise Unreachable(told["error"])
             if said.status != 200:
-                kind = {403: Refused, 409: Parted}.get(said.status, ConnectionError)
-                raise kind(told["error"])
+                raise {403: Refused, 409: Parted}.get(said.status, ConnectionError)(told["error"])
             head, begun = int(told["head"]), Chain(told.get("place", place), bytes.fromhex(told["digest"]))
             if ledger not in ("", told["ledger"]) or chain and begun.place == place and chain != begun:
                 raise Parted(f"the ledger's first {place} entries are others than were heard before: {PARTED}")
-            pieces = [base64.b64decode(json.loads(await read())["piece"]) for _ in range(told.get("pieces", 0))]
+            pieces = self.pieces = list[bytes]()
+            while len(pieces) < told.get("pieces", 0):
+                pieces.append(base64.b64decode(json.loads(await read())["piece"]))
             if pieces and await asyncio.to_thread(state_of, pieces) != told["state"]:
                 raise ConnectionError("a recorder's checkpoint does not have the digest that it should have")
             chain, ledger = begun, told["ledger"]
             yield News(chain, [], head, ledger, pieces)
+            pieces.clear()  # they are applied, and this stream may last for months
             while line := await read():
                 told = json.loads(line)
                 if "error" in told:

@@ -80,7 +80,9 @@ class Founding:
             raise Unfounded(f"{folder} has no {PLAN}: walrus-net found makes it")
         self.plan: dict[str, Any] = json.loads(path.read_text()) if plan is None else plan
         if "hosts" not in self.plan:
-            raise Unfounded(f"{folder} is a network on one machine: use network/up --add to add nodes")
+            raise Unfounded(
+                f"{folder} is a network on one machine, which network/up renews at each start and adds to (--add)"
+            )
 
     @classmethod
     def begin(cls, folder: pathlib.Path, plan: dict[str, Any], days: float) -> "Founding":
@@ -113,10 +115,17 @@ class Founding:
         return [Place(name, *it) for name, it in self.plan["nodes"].items()]
 
     def must_have(self, named: Sequence[str]) -> None:
-        """Raises `Unfounded` if one of these names has no certificate here."""
-        paths = [*self.folder.glob("*.crt"), *self.folder.glob("hosts/*/*.crt"), *self.folder.glob("users/*/*.crt")]
-        if unknown := {*named} - {path.stem for path in paths}:
-            raise Unfounded(f"{self.folder} has no certificate of {' or '.join(sorted(unknown))}: nothing was renewed")
+        """Raises `Unfounded` if the authorities here have signed no certificate of one of these names."""
+        paths = [*self.folder.glob("hosts/*/*.crt"), *self.folder.glob("users/*/*.crt")]
+        known = {AUTHORITY, ETCD_AUTHORITY}
+        known |= {it.stem for it in paths if it.stem in {*named} - known and self.signer(it)}
+        if unknown := " or ".join(sorted({*named} - known)):
+            text = f"the authorities in {self.folder} have signed no certificate of {unknown}: nothing was renewed"
+            raise Unfounded(text)
+
+    def signer(self, path: pathlib.Path) -> Optional[pathlib.Path]:
+        """Returns which authority here has signed a certificate; None if others did, such as one for HTTPS."""
+        return certificates.signer(certificates.read(path), [self.folder / it for it in (AUTHORITY, ETCD_AUTHORITY)])
 
     def add(self, nodes: Sequence[Place], gateways: Sequence[Place], users: Sequence[str]) -> None:
         """Makes the files of these nodes, gateways and users if all can have their names, and saves the plan."""
@@ -162,10 +171,11 @@ class Founding:
         raise Unfounded(f"{name} is no node, gateway or user of {self.folder}")
 
     def renew(self, named: Sequence[str], within: float, days: float) -> list[pathlib.Path]:
-        """Renews the named certificates, or those that expire within some days; returns the paths that changed. `days`
-        is how long new ones are valid, except those of authorities. Copies of an authority's certificate that differ
-        from the one here are always replaced, as an earlier run may have been interrupted. Raises if an authority that
-        is not named is not valid yet: by a slow clock nothing would seem to expire."""
+        """Renews the named certificates, or those that expire within some days, of those that the authorities here have
+        signed; returns the paths that changed. `days` is how long new ones are valid, except those of authorities.
+        Copies of an authority's certificate that differ from the one here are always replaced, as an earlier run may
+        have been interrupted. Raises if an authority that is not named is not valid yet: by a slow clock nothing would
+        seem to expire."""
         paths = [self.folder / f"{it}.crt" for it in (AUTHORITY, ETCD_AUTHORITY)]
         late = {it.stem: text for it in paths if (text := certificates.early(certificates.read(it)))}
         if unnamed := [it for it in late if it not in named]:
@@ -187,11 +197,11 @@ class Founding:
         for path in sorted([*self.folder.glob("hosts/*/*.crt"), *self.folder.glob("users/*/*.crt")]):
             if path.stem in (AUTHORITY, ETCD_AUTHORITY):
                 continue
-            old = certificates.read(path)
-            if path.stem in named or not named and (certificates.days_left(old) < within or certificates.early(old)):
-                by = ETCD_AUTHORITY if path.stem == "etcd" else AUTHORITY
+            old, by = certificates.read(path), self.signer(path)
+            ends = certificates.days_left(old) < within or certificates.early(old)
+            if by and (path.stem in named or not named and ends):
                 known, name = certificates.names_of(old), certificates.common_name(old)
-                certificates.make(path.with_suffix(""), self.folder / by, name, known, days)
+                certificates.make(path.with_suffix(""), by, name, known, days)
                 changed.append(path)
         self.give_units()
         return changed

@@ -13,10 +13,11 @@ from typing import Optional
 
 from .checkpoint import Mark
 from .etcd import Failed
-from .recorder import GRACE, Recorder
+from .recorder import Recorder
 
 PAUSE, IDLE = 5.0, 30.0  # seconds between two looks; seconds without a new entry until etcd may be defragmented
 TRIES = 10  # to put a piece of a checkpoint
+GRACE = 60.0  # seconds without a new piece after which a recorder no longer waits for another one to write
 FULL = 0.75  # of etcd's quota: the rest has room for what comes while entries are dropped, and for the next checkpoint
 LEAST = 100_000  # entries after a checkpoint, and a quarter of the live blobs, from which on another one frees much
 SLACK = 67_108_864  # free bytes that etcd may always have in its file
@@ -29,7 +30,8 @@ class Keeper:
         self.recorder, self.etcd, self.patience = recorder, recorder.etcd, patience
         self.said, self.dropped = "", 0  # the last failure; the place up to which this recorder has dropped everything
         self.seen = dict[int, float]()  # when the checkpoint of a place was first seen, by the monotonic clock
-        self.crowded = dict[int, float]()  # when etcd was first nearly full after the checkpoint of a place
+        self.found: Optional[tuple[int, int]] = None  # the last checkpoint's place, and how many pieces were put since,
+        self.since = 0.0  # while the next one is due; and since when that is so
 
     async def run(self) -> None:
         while True:
@@ -66,15 +68,17 @@ class Keeper:
 
     async def is_due(self, mark: Optional[Mark]) -> bool:
         """Whether the next checkpoint is to be written: the epoch has none yet, or so much was appended since its last
-        one that etcd is nearly full. Otherwise nothing could be appended any more, not even what ends the epoch. For
-        `GRACE` seconds one recorder alone writes: etcd may have no room for the checkpoints of all."""
+        one that etcd is nearly full. Otherwise nothing could be appended any more, not even what ends the epoch. One
+        recorder alone writes, as etcd may have no room for the checkpoints of all: the one that appended the epoch
+        change, or the one beside etcd's leader. Others wait until no piece has come for `GRACE` seconds."""
         recorder, place, epoch = self.recorder, mark.place if mark else 0, mark.epoch if mark else 0
-        if recorder.ledger.epoch > epoch:
-            return time.monotonic() > recorder.turned
-        if recorder.chain.place - place <= LEAST + len(recorder.ledger.blobs) // 4 or not await self.is_full():
+        turned, least = recorder.ledger.epoch > epoch, LEAST + len(recorder.ledger.blobs) // 4
+        if not turned and (recorder.chain.place - place <= least or not await self.is_full()):
+            self.found = None
             return False
-        since = self.crowded.setdefault(place, time.monotonic())
-        return await self.etcd.leads() or time.monotonic() > since + GRACE
+        if (found := (place, await self.etcd.count_pieces(place))) != self.found:
+            self.found, self.since = found, time.monotonic()
+        return (recorder.turned if turned else await self.etcd.leads()) or time.monotonic() > self.since + GRACE
 
     def is_over(self, mark: Mark) -> bool:
         """Whether all nodes of both committees have posted that they are past a checkpoint's epoch, which this recorder

@@ -77,9 +77,10 @@ class Local:
             await self.end(name)
 
     async def found(self) -> None:
-        """Makes the authorities, the users, and the settings of etcd and recorders, unless the folder has a network."""
+        """Makes the authorities, the users, and the settings of etcd and recorders, unless the folder has a network:
+        then it renews its certificates."""
         if (self.folder / PLAN).exists():
-            return
+            return self.renew()
         (self.folder / "users").mkdir(parents=True, mode=0o700, exist_ok=True)
         for name in (AUTHORITY, ETCD_AUTHORITY):
             certificates.make_authority(self.folder / name)
@@ -94,6 +95,19 @@ class Local:
             machine.etcd(name, Place(name, HOST, 0), urls, 100)
         for number, place in enumerate(places):
             machine.recorder(place, urls[self.members[number % len(self.members)]][0], place.name)
+
+    def renew(self) -> None:
+        """Makes the certificates anew that expire soon, or that are not valid yet, as the clock was fast when they were
+        made: the authorities', whose keys stay, and those that they have signed. All that uses them starts later."""
+        authorities = [self.folder / AUTHORITY, self.folder / ETCD_AUTHORITY]
+        for path in [*self.folder.glob("*.crt"), *self.folder.glob("users/*.crt")]:
+            old, name = certificates.read(path), path.with_suffix("")
+            if certificates.days_left(old) > certificates.SOON and not certificates.early(old):
+                continue
+            if name in authorities:
+                certificates.make_authority(name)
+            elif by := certificates.signer(old, authorities):
+                certificates.make(name, by, certificates.common_name(old), certificates.names_of(old))
 
     def machine(self) -> Machine:
         """Returns this machine, whose files are all in the folder."""

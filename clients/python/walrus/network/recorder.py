@@ -23,7 +23,6 @@ from .waiting import Waiting
 MOST_BATCH, HELD, RECENT = 262_144, 1_048_576, 4_194_304  # bytes of a batch, kept for each follower, and for all
 TOGETHER = 1_000  # entries of a batch at most, as the event loop does nothing else while they are judged or entered
 BEAT, POLL, FRESH = 1.0, 1.0, 5.0  # seconds
-GRACE = 60.0  # seconds in which a checkpoint is left to the recorder that appended the epoch change
 Answer = Union[int, Refused]  # the place of a posted entry, or why it was refused
 Taken = asyncio.Future[Answer]
 
@@ -41,7 +40,7 @@ class Recorder:
         self.waiting = dict[Taken, str]()
         self.recent, self.size = collections.deque[Batch](), 0  # batches for followers, and their bytes
         self.seen, self.fault = float("-inf"), ""  # when all was read that etcd had; the last failure, if it lasts
-        self.appended, self.turned = 0.0, 0.0  # when entries last were; from when on this recorder writes a checkpoint
+        self.appended, self.turned = 0.0, False  # when entries last were; whether it appended the epoch change itself
         self.bell, self.news, self.own = asyncio.Event(), Waiting(), 0  # `own`: the place up to which it appends now
         self.turn = asyncio.Lock()  # of followers that need batches that only etcd has
         self.turns = collections.defaultdict[str, asyncio.Lock](asyncio.Lock)  # so that each name waits there only once
@@ -185,7 +184,7 @@ class Recorder:
         for entry in entries:
             self.apply(entry)
         if self.ledger.epoch != epoch:
-            self.turned = time.monotonic() + (0 if own else GRACE)
+            self.turned = own
         self.appended = time.monotonic()
         self.state.save(batch.after, entries, soon=True)
         self.recent.append(batch)
