@@ -4,7 +4,6 @@ import asyncio
 import contextlib
 import json
 import os
-import pathlib
 import re
 import sys
 import time
@@ -155,7 +154,13 @@ def must_name(told: Any, names: list[bytes], what: str) -> None:
 async def store_bundle(session: aiohttp.ClientSession, paths: list[str], epochs: int) -> Any:
     """Stores small files as one bundle."""
     naming, form = await naming_of(session), aiohttp.FormData(quote_fields=False)
-    files = [pathlib.Path(path).read_bytes() for path in paths]
+    files, room = list[bytes](), client.LARGEST_BLOB
+    for path in paths:
+        with open(path, "rb") as file:
+            files.append(file.read(room + 1))
+        if (room := room - len(files[-1])) < 0:
+            text = f"a bundle has at most {client.LARGEST_BLOB} bytes, and with {path} it has more"
+            raise Failure(f"{text}: store large files by themselves", 1)
     for path, data in zip(paths, files):
         form.add_field("file", data, filename=os.path.basename(path))
     told = await ask(session, "POST", "/v1/bundles", params={"epochs": epochs}, data=form)
