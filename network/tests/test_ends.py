@@ -23,7 +23,7 @@ from walrus.network.packing import SMALL
 from walrus.network.pieces import Memory
 from walrus.network.problems import Problem
 from walrus.network.shares import Charge
-from walrus.network.transfers import Bar, Failure
+from walrus.network.transfers import Bar, Busy, Failure
 
 SIZE = 1_000  # of a piece
 
@@ -138,6 +138,7 @@ class Trees(unittest.IsolatedAsyncioTestCase):
         (self.top / "large").write_bytes(bytes(SMALL + 1))
         (self.top / "small").write_bytes(b"small")
         self.kept, self.ends = dict[str, int](), [8, 8, 9]  # of what is there, and of what is sent
+        self.asked, self.refused = 0, set[int]()
         self.enterContext(mock.patch.object(trees, "ask", self.ask))
         self.enterContext(mock.patch.object(trees, "put", self.put))
 
@@ -145,14 +146,21 @@ class Trees(unittest.IsolatedAsyncioTestCase):
         return hashlib.sha256(data).hexdigest().encode()
 
     async def ask(self, _: object, __: str, path: str) -> Any:
+        self.must_be_few()
         if (end := self.kept.get(path.rpartition("/")[2])) is None:
             raise Failure("no such blob", 4)
         return {"certificate": {"epoch": 3, "count": 4}, "invalid": False, "endEpoch": end}
 
     async def put(self, _: object, parts: AsyncIterator[bytes], __: int) -> dict[str, Any]:
+        self.must_be_few()
         name = hashlib.sha256(b"".join([part async for part in parts])).hexdigest()
         self.kept[name] = self.ends.pop(0)
         return {"blobId": name, "endEpoch": self.kept[name]}
+
+    def must_be_few(self) -> None:
+        self.asked += 1
+        if self.asked % 3 in self.refused:
+            raise Busy("too much at once", 1)
 
     async def end(self, until: int) -> Optional[int]:
         naming = Naming(mock.Mock(output=self.output), 1)
@@ -165,6 +173,17 @@ class Trees(unittest.IsolatedAsyncioTestCase):
 
     async def test_a_folder_that_a_turn_of_the_epoch_finds_half_sent_ends_with_what_was_sent_before(self) -> None:
         self.assertEqual(await self.end(8), 8)
+
+    async def test_a_folder_is_stored_even_if_the_gateway_refuses_many_requests(self) -> None:
+        self.refused = {0, 1}
+        with mock.patch("asyncio.sleep") as slept:
+            self.assertEqual(await self.end(8), 8)
+            self.kept, self.ends = dict.fromkeys(self.kept, 20), [30]
+            self.assertEqual(await self.end(8), 20)  # what is there is not sent again
+            self.refused, self.ends = {0, 1, 2}, []
+            with self.assertRaisesRegex(Failure, "too much at once"):
+                await self.end(8)
+        self.assertLess(slept.call_count, 50)
 
     async def test_a_folder_of_which_all_was_there_ends_with_the_first_of_it(self) -> None:
         await self.end(8)
