@@ -185,6 +185,14 @@ class Trees(unittest.IsolatedAsyncioTestCase):
                 await self.end(8)
         self.assertLess(slept.call_count, 50)
 
+    async def test_a_large_file_that_changes_between_its_readings_is_no_proof_of_a_lie(self) -> None:
+        async def ask(*_: object) -> Any:
+            (self.top / "large").write_bytes(b"other" * SMALL)
+            raise Failure("no such blob", 4)
+
+        with mock.patch.object(trees, "ask", ask), self.assertRaisesRegex(Failure, "unless it changed meanwhile, is"):
+            await self.end(8)
+
     async def test_a_folder_of_which_all_was_there_ends_with_the_first_of_it(self) -> None:
         await self.end(8)
         self.kept, self.ends = {name: 20 - place for place, name in enumerate(self.kept)}, [30]

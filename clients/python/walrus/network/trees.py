@@ -103,7 +103,7 @@ class Sending:
                     size += len(part)
                     yield part
 
-        name, _ = await self.send(parts, shown(path))
+        name, _ = await self.send(parts, f"{shown(path)}, unless it changed meanwhile,")
         self.folder.add(path, size, name)
 
     async def send_pack(self, number: int, pack: list[tuple[bytes, int, Any]]) -> None:
