@@ -1,4 +1,5 @@
 """Until when a file or a folder is kept, as is told of it: until the first of its parts ends."""
+import contextlib
 import hashlib
 import itertools
 import pathlib
@@ -14,6 +15,7 @@ from walrus.network import chunks, trees
 from walrus.network.blobs import Blob
 from walrus.network.checked import Naming
 from walrus.network.entries import Entry, entry_key
+from walrus.network.follower import Refused
 from walrus.network.gathering import Costs, Storing, Upload, once
 from walrus.network.ledger import Ledger
 from walrus.network.listing import Lister
@@ -21,7 +23,7 @@ from walrus.network.packing import SMALL
 from walrus.network.pieces import Memory
 from walrus.network.problems import Problem
 from walrus.network.shares import Charge
-from walrus.network.transfers import Bar, Failure
+from walrus.network.transfers import Bar, Busy, Failure
 
 SIZE = 1_000  # of a piece
 
@@ -80,7 +82,7 @@ class Ends(unittest.IsolatedAsyncioTestCase):
     async def test_what_is_kept_for_longer_ends_with_the_first_of_its_blobs(self) -> None:
         names = [bytes([it]) * 32 for it in range(5)]
         self.blobs |= {name: Blob(50 - place, "publisher") for place, name in enumerate(names)}
-        shelf = mock.Mock(consists=mock.AsyncMock(return_value=(9, dict.fromkeys(names))))
+        shelf = mock.Mock(consists=mock.AsyncMock(return_value=dict.fromkeys(names, 9)))
         lister = Lister(self.network, mock.Mock(), shelf)
         for epochs, expected, asked in ((9, 46, []), (48, 48, names[3:]), (60, 60, names)):
             self.asked.clear()
@@ -88,6 +90,25 @@ class Ends(unittest.IsolatedAsyncioTestCase):
                 told = await lister.extend(names[0], epochs, mock.Mock())
             self.assertEqual((told["endEpoch"], {*self.asked}), (expected, {*asked}))
         self.assertEqual(self.asked[-1], names[0])  # the list, once its pieces are kept
+
+    async def test_what_is_kept_for_longer_costs_its_bytes_whatever_is_kept_beside_it(self) -> None:
+        names, kept = [bytes([it]) * 32 for it in range(9)], dict[bytes, int]()
+        sizes = dict.fromkeys(names, 1) | {names[7]: 2_000, names[8]: 3_000}
+
+        async def register(name: bytes, _: int) -> None:
+            if len(kept) == left:
+                raise Refused("the epoch is changing")
+            kept[name] = sizes[name]
+
+        self.blobs |= {name: Blob(5 if name in (names[0], *names[7:]) else 50, "publisher") for name in names}
+        self.network.register = register
+        for left in (1, 2, 9):
+            kept.clear()
+            charge, shelf = mock.Mock(), mock.Mock(consists=mock.AsyncMock(return_value=sizes))
+            with mock.patch("walrus.network.listing.date_of"), contextlib.suppress(Refused):
+                await Lister(self.network, mock.Mock(), shelf).extend(names[0], 9, charge)
+            self.assertEqual(charge.set_to.call_args_list[0], mock.call(5_001, 3))
+            self.assertEqual(charge.set_to.call_args, mock.call(sum(kept.values()), len(kept)))
 
     async def test_what_ended_just_before_is_not_kept_for_longer(self) -> None:
         name, ledger, places, charge = bytes([7]) * 32, Ledger(), itertools.count(1), mock.Mock()
@@ -104,7 +125,7 @@ class Ends(unittest.IsolatedAsyncioTestCase):
 
         await enter(begin[0], entry_key("publisher", "register", name.hex(), 1), *acks, begin[1], *ready)
         network: Any = types.SimpleNamespace(ledger=ledger, register=register)
-        shelf = mock.Mock(consists=mock.AsyncMock(return_value=(9, {name: None})))
+        shelf = mock.Mock(consists=mock.AsyncMock(return_value={name: 9}))
         with self.assertRaisesRegex(Problem, "its time ended before"):
             await Lister(network, mock.Mock(), shelf).extend(name, 5, charge)
         self.assertEqual((ledger.epoch, ledger.blobs[name].until), (1, 6))  # it is registered, as a new blob
@@ -117,6 +138,7 @@ class Trees(unittest.IsolatedAsyncioTestCase):
         (self.top / "large").write_bytes(bytes(SMALL + 1))
         (self.top / "small").write_bytes(b"small")
         self.kept, self.ends = dict[str, int](), [8, 8, 9]  # of what is there, and of what is sent
+        self.asked, self.refused = 0, set[int]()
         self.enterContext(mock.patch.object(trees, "ask", self.ask))
         self.enterContext(mock.patch.object(trees, "put", self.put))
 
@@ -124,14 +146,21 @@ class Trees(unittest.IsolatedAsyncioTestCase):
         return hashlib.sha256(data).hexdigest().encode()
 
     async def ask(self, _: object, __: str, path: str) -> Any:
+        self.must_be_few()
         if (end := self.kept.get(path.rpartition("/")[2])) is None:
             raise Failure("no such blob", 4)
         return {"certificate": {"epoch": 3, "count": 4}, "invalid": False, "endEpoch": end}
 
     async def put(self, _: object, parts: AsyncIterator[bytes], __: int) -> dict[str, Any]:
+        self.must_be_few()
         name = hashlib.sha256(b"".join([part async for part in parts])).hexdigest()
         self.kept[name] = self.ends.pop(0)
         return {"blobId": name, "endEpoch": self.kept[name]}
+
+    def must_be_few(self) -> None:
+        self.asked += 1
+        if self.asked % 3 in self.refused:
+            raise Busy("too much at once", 1)
 
     async def end(self, until: int) -> Optional[int]:
         naming = Naming(mock.Mock(output=self.output), 1)
@@ -144,6 +173,25 @@ class Trees(unittest.IsolatedAsyncioTestCase):
 
     async def test_a_folder_that_a_turn_of_the_epoch_finds_half_sent_ends_with_what_was_sent_before(self) -> None:
         self.assertEqual(await self.end(8), 8)
+
+    async def test_a_folder_is_stored_even_if_the_gateway_refuses_many_requests(self) -> None:
+        self.refused = {0, 1}
+        with mock.patch("asyncio.sleep") as slept:
+            self.assertEqual(await self.end(8), 8)
+            self.kept, self.ends = dict.fromkeys(self.kept, 20), [30]
+            self.assertEqual(await self.end(8), 20)  # what is there is not sent again
+            self.refused, self.ends = {0, 1, 2}, []
+            with self.assertRaisesRegex(Failure, "too much at once"):
+                await self.end(8)
+        self.assertLess(slept.call_count, 50)
+
+    async def test_a_large_file_that_changes_between_its_readings_is_no_proof_of_a_lie(self) -> None:
+        async def ask(*_: object) -> Any:
+            (self.top / "large").write_bytes(b"other" * SMALL)
+            raise Failure("no such blob", 4)
+
+        with mock.patch.object(trees, "ask", ask), self.assertRaisesRegex(Failure, "unless it changed meanwhile, is"):
+            await self.end(8)
 
     async def test_a_folder_of_which_all_was_there_ends_with_the_first_of_it(self) -> None:
         await self.end(8)

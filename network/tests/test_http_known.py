@@ -165,9 +165,9 @@ class Known(GuardCase):
         self.enterContext(mock.patch.object(self.gateway.lister, "tell", lambda *_: {}))
         for left, status, used in (
             (0, 503, (0, 0)),
-            (1, 503, (size // 2, 1)),  # the file is kept for longer, and the manifest is not
-            (0, 503, (size // 2, 1)),
-            (2, 200, (size // 2 + size, 3)),
+            (1, 503, (4, 1)),  # the file is kept for longer, and the manifest is not
+            (0, 503, (4, 1)),
+            (2, 200, (4 + size, 3)),
         ):
             self.assertEqual((await self.ask("POST", f"/v1/extend/{name}?epochs=7", headers=alice))[0], status)
             shares = self.gateway.publisher.shares

@@ -57,6 +57,22 @@ class Impatient(GuardCase):
         self.assertEqual((await self.ask("GET", "/v1/status"))[0], 200)
         self.assertGreater(time.monotonic() - begun, 6.9)
 
+    async def test_who_moves_too_many_bytes_waits_and_is_not_refused(self) -> None:
+        """As `walrus-net store FOLDER` does, with several requests at once."""
+        await self.start(rate=4_000_000, requests=0)
+        begun = time.monotonic()
+        asked = [asyncio.create_task(self.put(bytes(4_000_000))) for _ in range(4)]
+        async with asyncio.timeout(120):
+            while len(self.stored) < 4:
+                asked.append(asyncio.create_task(self.status_of("/v1/status")))
+                await asyncio.sleep(0.1)
+        self.assertEqual({*await asyncio.gather(*asked[4:])}, {200})
+        self.assertEqual(await asyncio.gather(*asked[:4]), [201] * 4)
+        self.assertGreater(time.monotonic() - begun, 1.9)  # 8 MB are there at first
+
+    async def status_of(self, path: str) -> int:
+        return (await self.ask("GET", path))[0]
+
     async def test_a_slow_reader_holds_up_nobody(self) -> None:
         self.enterContext(mock.patch.multiple(reading, SILENCE=600.0, GRACE=600.0))  # so that the slow ones stay
         await self.start(requests=0)

@@ -170,6 +170,13 @@ class Groups(unittest.IsolatedAsyncioTestCase):
             self.assertEqual(self.running, 0)
         self.assertEqual((self.done, self.ended), (0, 5))
 
+    async def test_behind_a_fault_a_deadline_still_ends_as_one(self) -> None:
+        with self.assertRaises(client.Failed):
+            await groups.all_of([self.fail(), self.work(10**9)])
+        with self.assertRaises(TimeoutError):
+            async with asyncio.timeout(0):
+                await asyncio.sleep(9)
+
     async def test_who_is_ended_ends_all(self) -> None:
         task = asyncio.create_task(groups.all_of([self.work(10**9), self.work(10**9)]))
         while self.running < 2:

@@ -16,8 +16,10 @@ from browser import PROGRAM, Browser
 from guard_case import GuardCase, other_address
 from harness import HERE
 from walrus.network import certificates
+from walrus.network.chunks import PIECE, File
 from walrus.network.follower import Resolver
 from walrus.network.local import free_port
+from walrus.network.transfers import PATIENCE
 
 NGINX, HAPROXY = (shutil.which(it) or shutil.which(it, path="/usr/sbin") for it in ("nginx", "haproxy"))
 
@@ -25,7 +27,7 @@ NGINX, HAPROXY = (shutil.which(it) or shutil.which(it, path="/usr/sbin") for it 
 class Proxied(GuardCase):
     """A gateway behind a proxy that is set up as the page says, at an address that others reach."""
 
-    options: dict[str, Any] = {}
+    options: dict[str, Any] = {"uploads": 1_000}
 
     async def asyncSetUp(self) -> None:
         await super().asyncSetUp()
@@ -64,6 +66,39 @@ class Proxied(GuardCase):
         assert found
         return found[1].replace("127.0.0.1:31415", f"127.0.0.1:{self.port}").replace("/etc/ssl", str(self.folder))
 
+    async def open(self, line: str, *fields: str) -> tuple[bytes, asyncio.StreamWriter]:
+        """Begins a request on a connection of its own, and returns the first line of the answer."""
+        kept = {"ssl": self.context, "server_hostname": "blobs.example"}
+        reader, writer = await asyncio.open_connection(*self.place, **kept)  # type: ignore[arg-type]
+        self.addCleanup(writer.transport.abort)
+        head = f"{line} HTTP/1.1", "Host: blobs.example", *fields, "", ""
+        writer.write("\r\n".join(head).encode())
+        return await reader.readline(), writer
+
+    async def slow_clients(self) -> None:
+        """A reply waits at the gateway for its reader, and one address has few connections there."""
+        self.files |= {"11" * 32: bytes(PIECE), "22" * 32: File(20 * PIECE, b"\x11" * 32 * 20).listed()}
+        sent, before = self.gateway.reader.bytes, -1
+        said, writer = await self.open(f"GET /v1/blobs/{'22' * 32}")
+        self.assertIn(b" 200 ", said)
+        while before < (now := sent['way="out"']):
+            before = now
+            await asyncio.sleep(1)
+        self.assertLess(before, 5 * PIECE)  # what sockets hold
+        writer.transport.abort()
+        fields = "Content-Length: 9", "Expect: 100-continue", f"Authorization: {self.token('alice')['Authorization']}"
+        opened = 0
+        with contextlib.suppress(OSError):
+            while b" 100 " in (await self.open("PUT /v1/blobs?epochs=1", *fields))[0]:
+                opened += 1
+        self.assertEqual(opened, 100)
+
+    def must_be_patient(self, text: str, *kinds: str) -> None:
+        """Checks that the proxy waits for the gateway as long as `walrus-net` does."""
+        for kind in kinds:
+            found = re.search(rf"{kind} (\d+)s", text)
+            self.assertGreater(int(found[1]) if found else 60, PATIENCE, kind)
+
     async def strangers_and_customers(self) -> None:
         forged = {"X-Forwarded-For": "127.0.0.1"}
         for headers in ({}, forged, {**forged, "Origin": "https://blobs.example"}):
@@ -93,7 +128,8 @@ class Proxied(GuardCase):
 @unittest.skipUnless(NGINX and other_address(), "nginx, or an address that others reach, is not here")
 class BehindNginx(Proxied):
     def line(self) -> list[str]:
-        text = self.told("nginx").replace("listen 443 ssl", f"listen {self.place[0]}:{self.place[1]} ssl")
+        self.must_be_patient(text := self.told("nginx"), "proxy_send_timeout", "proxy_read_timeout")
+        text = text.replace("listen 443 ssl", f"listen {self.place[0]}:{self.place[1]} ssl")
         kinds = "client_body", "proxy", "fastcgi", "uwsgi", "scgi"
         words = "".join(f"{it}_temp_path {self.folder}/{it};" for it in kinds) + "access_log off;"
         frame = f"daemon off; pid {self.folder}/pid; error_log {self.folder}/nginx.log; events {{}}"
@@ -105,6 +141,9 @@ class Nginx(BehindNginx):
     async def test_strangers_and_customers(self) -> None:
         await self.strangers_and_customers()
 
+    async def test_slow_clients(self) -> None:
+        await self.slow_clients()
+
     async def test_who_goes_round_it_is_a_stranger(self) -> None:
         """A request that comes through a proxy unknown to the gateway does not count as from this machine."""
         self.gateway.guard.proxies.clear()
@@ -114,12 +153,16 @@ class Nginx(BehindNginx):
 @unittest.skipUnless(HAPROXY and other_address(), "haproxy, or an address that others reach, is not here")
 class Haproxy(Proxied):
     def line(self) -> list[str]:
-        text = self.told("haproxy").replace("bind :443", f"bind {self.place[0]}:{self.place[1]}")
+        self.must_be_patient(text := self.told("haproxy"), "timeout server")
+        text = text.replace("bind :443", f"bind {self.place[0]}:{self.place[1]}")
         (self.folder / "haproxy.cfg").write_text(text)
         return [str(HAPROXY), "-db", "-f", str(self.folder / "haproxy.cfg")]
 
     async def test_strangers_and_customers(self) -> None:
         await self.strangers_and_customers()
+
+    async def test_slow_clients(self) -> None:
+        await self.slow_clients()
 
 
 @unittest.skipUnless(PROGRAM, "chromium is not here (apt-get install chromium)")

@@ -77,7 +77,7 @@ class Away(unittest.IsolatedAsyncioTestCase):
         known = mock.Mock(**{"find.return_value": "/v1/uploads/1"})
         with (
             mock.patch.object(sending, "look", side_effect=said),
-            mock.patch.object(resuming, "ask", return_value={"epoch": 0}),
+            mock.patch.object(resuming, "ask", return_value={"epoch": 0, "moving": False}),
             mock.patch.object(asyncio, "sleep"),
         ):
             return await sending.send(known, 5)
@@ -90,6 +90,19 @@ class Away(unittest.IsolatedAsyncioTestCase):
             await self.send(*[away] * TRIES)
         text = f"the ledger is away: it broke off {TRIES} times; the same command goes on from there"
         self.assertEqual(caught.exception.args, (text, 4))
+
+    async def test_an_upload_goes_on_only_if_it_is_kept_for_as_long_as_a_new_one(self) -> None:
+        """During a handover a new one is kept from the next epoch on."""
+        for moving, until, expected in ((False, 7, "1"), (True, 7, "2"), (True, 8, "1")):
+            said = mock.Mock(status=201, headers={"Location": "/v1/uploads/2"})
+            session = mock.Mock(post=mock.MagicMock(**{"return_value.__aenter__.return_value": said}))
+            sending = resuming.Sending(session, mock.Mock(), mock.Mock(), mock.Mock())
+            known = mock.Mock(**{"find.return_value": "/v1/uploads/1"})
+            with (
+                mock.patch.object(sending, "look", return_value={"endEpoch": until}),
+                mock.patch.object(resuming, "ask", return_value={"epoch": 2, "moving": moving}),
+            ):
+                self.assertEqual(await sending.place_of(known, 5), f"/v1/uploads/{expected}")
 
     async def test_a_gateway_that_goes_back_and_forth_is_given_up(self) -> None:
         """Else a lying one has the whole file sent again and again, without an end."""

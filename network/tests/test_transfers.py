@@ -133,6 +133,14 @@ class Transfers(TransferCase):
             "no bundle", (await self.run_net("fetch", f"{(await self.id(b'no bundle')).hex()}/0", status=4))[1]
         )
 
+    async def test_a_bundle_reads_no_more_of_its_files_than_it_may_have(self) -> None:
+        self.out.touch()
+        os.truncate(self.out, 2**40)
+        for path in (self.out, "/dev/zero"):
+            _, said = await self.run_net("store", "--bundle", __file__, path, "--epochs", "1", status=1)
+            self.assertIn(f"a bundle has at most 16777216 bytes, and with {path} it has more", said)
+        self.assertEqual(self.bodies, [])
+
     @unittest.skipUnless(LIBRARY, "the library is not built")
     async def test_the_library_names_as_well(self) -> None:
         """Identifiers are computed by the library if there is no program, as in a wheel."""

@@ -82,6 +82,7 @@ class Guard:
         if "site" in request or request.match_info.http_exception is None and request.path not in FREE:
             self.must_be_allowed(request, token, READ if is_read(request) else STORE)
         with self.crowd.one(keys[-1]):
+            await request["flow"].spend(0)  # until nothing is owed: who moves too many bytes waits, and is not refused
             response: web.StreamResponse = await handler(request)
         if isinstance(response, web.Response) and isinstance(response.body, bytes):
             await request["flow"].spend(len(response.body))  # a stream spends as it goes

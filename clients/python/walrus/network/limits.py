@@ -49,9 +49,7 @@ class Limits:
         """Counts a request of the client with these keys and returns 0, or counts nothing and returns the seconds after
         which it may try again."""
         buckets = [self.bucket("requests", key) for key in keys if self.requests]
-        wait = max(
-            [it.wait(1) for it in buckets] + [self.bucket("bytes", key).wait() for key in keys if self.rate] + [0]
-        )
+        wait = max((it.wait(1) for it in buckets), default=0.0)
         for it in buckets if not wait else ():
             it.take(1)
         return math.ceil(wait)

@@ -1,7 +1,7 @@
 """Lists blobs, and keeps files and folders for longer."""
 import asyncio
 import re
-from typing import Sequence
+from typing import Mapping, Sequence
 
 from aiohttp import web
 
@@ -77,34 +77,33 @@ class Lister:
     async def keep(self, name: bytes, epochs: int, charge: Charge, most: int) -> dict[str, object]:
         """Does the work of `extend` for what has at most `most` blobs; raises `Many` if it has more."""
         network, until = self.network, self.network.ledger.writing_epoch + epochs
-        size, names = await self.shelf.consists(name, most)
+        blobs = await self.shelf.consists(name, most)
         short, end = list[bytes](), LAST_UNTIL
-        for number, piece in enumerate(names):  # anybody may list half a million
+        for number, piece in enumerate(blobs):  # anybody may list half a million
             self.reader.must_stand(piece)
             short += [piece] if (kept := network.ledger.blobs[piece].until) < until else []
             end = min(end, max(kept, until))
             if number % TOGETHER == 0:
                 await asyncio.sleep(0)
         if short:
-            size = size * len(short) // len(names)  # its bytes cost again, in proportion, and these blobs
-            charge.set_to(size, len(short))
-            await self.register(short, until, size, charge)
+            charge.set_to(sum(blobs[piece] for piece in short), len(short))
+            await self.register(short, until, blobs, charge)
         return self.tell(name, end)
 
-    async def register(self, short: Sequence[bytes], until: int, size: int, charge: Charge) -> None:
-        """Registers these blobs, which have `size` bytes, until an epoch, the first one last: if it lists the others,
-        it is kept for longer only once they are. If that fails, gives back the charge for what is surely not kept."""
-        done = 0
+    async def register(self, short: Sequence[bytes], until: int, sizes: Mapping[bytes, int], charge: Charge) -> None:
+        """Registers these blobs until an epoch, the first one last: if it lists the others, it is kept for longer only
+        once they are. If that fails, gives back the charge for what is surely not kept."""
+        done = size = 0
 
         async def register(piece: bytes) -> None:
-            nonlocal done
-            done += 1  # from now on it may be kept, even if no answer comes
+            nonlocal done, size
+            done, size = done + 1, size + sizes[piece]  # from now on it may be kept, even if no answer comes
             try:
                 await self.network.register(piece, until)
                 if not self.network.ledger.certificate(piece):  # its time was over: it was registered as a new blob
                     raise Problem(404, "its time ended before it was kept for longer: store it again")
             except (Refused, Problem):
-                done -= 1
+                done, size = done - 1, size - sizes[piece]
                 raise
 
         try:
@@ -112,7 +111,7 @@ class Lister:
                 await all_of(map(register, short[place : place + PAGE]))  # noqa: E203
             await register(short[0])
         except BaseException:
-            charge.set_to(size * done // len(short), done)
+            charge.set_to(size, done)
             raise
 
 

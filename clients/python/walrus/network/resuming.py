@@ -122,8 +122,8 @@ class Sending:
         """Returns the URL of an earlier upload of this file that is kept for long enough, or else of a new one. It is
         empty if the gateway has no resumable uploads, or no place for that of a pipe: PUT has more of them."""
         if known and (place := known.find()):
-            state, epoch = await self.look(place), (await ask(self.session, "GET", "/v1/status"))["epoch"]
-            if state and state["endEpoch"] >= epoch + epochs:
+            state, status = await self.look(place), await ask(self.session, "GET", "/v1/status")
+            if state and state["endEpoch"] >= status["epoch"] + bool(status["moving"]) + epochs:
                 return place
         headers = {"Upload-Complete": "?0"} | ({"Upload-Length": str(self.end)} if known else {})
         words: dict[str, Any] = {"params": {"epochs": epochs}, "headers": headers}

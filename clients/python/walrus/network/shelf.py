@@ -117,24 +117,24 @@ class Shelf:
             raise Problem(410, "the folder's manifest is false: this file has another length")
         return file if place.offset is None else Part(place.length, b"", file, place.offset)
 
-    async def consists(self, name: bytes, most: int) -> tuple[int, dict[bytes, None]]:
-        """Returns the bytes of a file, or of all of a folder, and the blobs that it consists of. Raises `Problem` if
-        one of these is uncertified or invalid, and `Many` if they are more than `most`."""
+    async def consists(self, name: bytes, most: int) -> dict[bytes, int]:
+        """Returns the blobs of a file, or of all of a folder, the one of this name first, with the bytes of each; lists
+        of pieces have none. Raises `Problem` if one is uncertified or invalid, and `Many` if they are more than `most`.
+        """
         async with self.reader.blob(name) as blob:
             file, front = File.of(name, blob), bytes(blob[: len(MARK)])
-        found = dict.fromkeys([name])
-        await self.add_blobs(found, file, most)
+        found = dict[bytes, int]()
+        await self.add_blobs(found, name, file, most)
         if file.names != name and file.length <= MOST_BYTES:
             async with self.reader.blob(next(file.pieces(0, 1))[0]) as blob:
                 front = bytes(blob[: len(MARK)])
-        total = await self.size_of(name, file)
         if front != MARK:
-            return total, found
+            return found
         try:
             manifest = await self.manifest(name)
         except Problem as fault:
             if "manifest" in fault.more:  # it begins as one but is none: an ordinary file
-                return total, found
+                return found
             raise
         sizes = dict[bytes, int]()
         for number, place in enumerate(manifest):
@@ -145,36 +145,28 @@ class Shelf:
             if number % TOGETHER == 0:
                 await asyncio.sleep(0)
         for other, size in sizes.items():
-            found[other] = None
-            must_be_few(found, most)
             self.reader.must_stand(other)
             length = None if size > PIECE else await self.reader.lengths.of_file(other)
             if length is None:
                 async with self.reader.blob(other) as blob:
-                    file = File.of(other, blob)
-                    await self.add_blobs(found, file, most)
-                length = await self.size_of(other, file)
-            total += length  # not what the manifest says: anybody may write less there
-        return total, found
+                    await self.add_blobs(found, other, File.of(other, blob), most)
+            else:  # not what the manifest says: anybody may write less there
+                await self.add_blobs(found, other, File(length, other), most)
+        return found
 
-    async def size_of(self, name: bytes, file: File) -> int:
-        """Returns the bytes that are kept for a file: its last piece may be longer than its list says."""
-        if file.names == name:
-            return file.length
-        last, before = bytes(file.names[-NAME:]), len(file.names) // NAME - 1
-        self.reader.must_stand(last)
-        return max(file.length, before * PIECE + (await self.reader.lengths.of_blob(last) or 0))
-
-    async def add_blobs(self, found: dict[bytes, None], file: File, most: int) -> None:
+    async def add_blobs(self, found: dict[bytes, int], name: bytes, file: File, most: int) -> None:
         """Adds the blobs of a file, each after a check that it is certified: invented identifiers take no memory. This
         takes seconds for the longest file; other tasks run meanwhile."""
-        for number, (piece, _, _, _) in enumerate(file.pieces(0, file.length)):
-            if len(piece) == NAME:
-                self.reader.must_stand(piece)
-                found[piece] = None
-                must_be_few(found, most)
+        found.setdefault(name, 0)
+        for number, (piece, size, _, _) in enumerate(file.pieces(0, file.length)):
             if number % TOGETHER == 0:
                 await asyncio.sleep(0)
+            if len(piece) == NAME:
+                self.reader.must_stand(piece)
+                found[piece] = max(size, found.get(piece, 0))
+                must_be_few(found, most)
+        if file.names != name:  # its last piece may be longer than its list says
+            found[piece] = max(found[piece], await self.reader.lengths.of_blob(piece) or 0)
 
     async def close(self) -> None:
         tasks = [*self.loading.values()]

@@ -4,11 +4,10 @@ import asyncio
 import contextlib
 import json
 import os
-import pathlib
 import re
 import sys
 import time
-from typing import IO, Any, AsyncIterator, Optional
+from typing import IO, Any, AsyncIterator, Awaitable, Callable, Optional
 
 import aiohttp
 from .. import bundles, client, library
@@ -21,11 +20,15 @@ from .manifest import clean
 PART, TRIES = 1_048_576, 5
 PATIENCE = 180  # seconds for a gateway to read a part of what is sent, or to answer
 MOST_JSON = 8_388_608  # most bytes of a gateway's JSON: a page of a list has 170 KB, the largest status 4.4 MB
-BY_STATUS, AWAY = {404: 4, 410: 3, 503: 4}, (502, 503, 504)  # exit statuses; what a gateway that restarts may answer
+BY_STATUS, AWAY = {404: 4, 410: 3, 503: 4}, (429, 502, 503, 504)  # exit statuses; what to ask again after
 
 
 class Failure(Exception):
     """A command that failed: why, in a sentence, and the exit status."""
+
+
+class Busy(Failure):
+    """The gateway refuses a request as it has too many of this client (429)."""
 
 
 class Bar(contextlib.AbstractContextManager["Bar"]):
@@ -72,7 +75,8 @@ async def reason_of(response: aiohttp.ClientResponse) -> str:
 async def check(response: aiohttp.ClientResponse) -> None:
     """Raises `Failure` with what a gateway says if it refuses."""
     if response.status not in (200, 201, 206):
-        raise Failure(await reason_of(response), BY_STATUS.get(response.status, 1))
+        kind = Busy if response.status == 429 else Failure
+        raise kind(await reason_of(response), BY_STATUS.get(response.status, 1))
 
 
 async def listed(session: aiohttp.ClientSession, within: int) -> AsyncIterator[dict[str, Any]]:
@@ -109,6 +113,15 @@ async def sending(
             yield response
     except TimeoutError as fault:
         raise TimeoutError(str(fault) or f"the gateway took nothing, and did not answer, for {PATIENCE} s") from fault
+
+
+async def patiently(call: Callable[[], Awaitable[Any]]) -> Any:
+    """Returns what a call returns, which is made again, later, if the gateway has too many requests of this client."""
+    for tries in range(1, TRIES):
+        with contextlib.suppress(Busy):
+            return await call()
+        await asyncio.sleep(2**tries / 2)
+    return await call()
 
 
 async def put(session: aiohttp.ClientSession, parts: AsyncIterator[bytes], epochs: int) -> Any:
@@ -155,7 +168,13 @@ def must_name(told: Any, names: list[bytes], what: str) -> None:
 async def store_bundle(session: aiohttp.ClientSession, paths: list[str], epochs: int) -> Any:
     """Stores small files as one bundle."""
     naming, form = await naming_of(session), aiohttp.FormData(quote_fields=False)
-    files = [pathlib.Path(path).read_bytes() for path in paths]
+    files, room = list[bytes](), client.LARGEST_BLOB
+    for path in paths:
+        with open(path, "rb") as file:
+            files.append(file.read(room + 1))
+        if (room := room - len(files[-1])) < 0:
+            text = f"a bundle has at most {client.LARGEST_BLOB} bytes, and with {path} it has more"
+            raise Failure(f"{text}: store large files by themselves", 1)
     for path, data in zip(paths, files):
         form.add_field("file", data, filename=os.path.basename(path))
     told = await ask(session, "POST", "/v1/bundles", params={"epochs": epochs}, data=form)

@@ -11,7 +11,7 @@ from .entries import LAST_UNTIL
 from .groups import several
 from .manifest import Wrong, as_path, label_of, shown
 from .packing import SMALL, Folder
-from .transfers import PART, Bar, Failure, ask, must_name, naming_of, put
+from .transfers import PART, Bar, Failure, ask, must_name, naming_of, patiently, put
 
 WIDTH = 4  # parts of a folder that are sent or fetched at once
 KINDS = {stat.S_IFLNK: "a link", stat.S_IFSOCK: "a socket", stat.S_IFIFO: "a pipe"}
@@ -60,7 +60,7 @@ class Sending:
                 yield part
                 self.bar.add(len(part))
 
-        told = await put(self.session, stream(), self.epochs)
+        told = await patiently(lambda: put(self.session, stream(), self.epochs))
         self.sent, self.end = self.sent + naming.size, min(self.end, told["endEpoch"])
         must_name(told, names, what)
         return names[0], told
@@ -68,7 +68,7 @@ class Sending:
     async def is_kept(self, name: bytes) -> bool:
         """Whether a blob is certified, and kept for long enough; False if the gateway does not tell."""
         try:
-            told = await ask(self.session, "GET", f"/v1/status/{name.hex()}")
+            told = await patiently(lambda: ask(self.session, "GET", f"/v1/status/{name.hex()}"))
         except Failure:
             return False
         is_kept = bool(told["certificate"]) and not told["invalid"] and told["endEpoch"] >= self.until
@@ -103,7 +103,7 @@ class Sending:
                     size += len(part)
                     yield part
 
-        name, _ = await self.send(parts, shown(path))
+        name, _ = await self.send(parts, f"{shown(path)}, unless it changed meanwhile,")
         self.folder.add(path, size, name)
 
     async def send_pack(self, number: int, pack: list[tuple[bytes, int, Any]]) -> None:
