@@ -167,6 +167,7 @@ class Sweeps(DiskCase):
         with mock.patch.object(scrub, "PAUSE", 0.2), mock.patch.object(self.store, "sweep", swept):
             with mock.patch.object(self.store, "base", refusing):
                 self.begin(self.scrub.sweep_always())
+                await self.until(lambda: swept.called)  # once all folders were compared
                 await asyncio.sleep(0.5)
             self.assertIn(swept.call_count, (1, 2, 3))
             await self.until(lambda: not self.held())
@@ -200,10 +201,11 @@ class Loading(DiskCase):
     async def test_a_node_that_still_reads_the_ledger_does_not_say_that_it_is_away(self) -> None:
         made = mock.MagicMock(turn=mock.AsyncMock(), until=mock.AsyncMock(return_value=False), watched=asyncio.sleep)
         made.follow.return_value = 0
-        for entering, silence, why in (
-            (True, 9.0, "is still being read"),
-            (False, 1.0, "is still"),
-            (False, 9.0, "is away"),
+        for entering, silence, made.recorders.pieces, why in (
+            (True, 9.0, [], "is still being read"),
+            (False, 1.0, [], "is still"),
+            (False, 9.0, [b"of a checkpoint that is coming"], "is still"),
+            (False, 9.0, [], "is away"),
         ):
             made.state.entering, made.silence.return_value = entering, silence
             with mock.patch("ssl.create_default_context", side_effect=EOFError), self.assertRaises(EOFError):

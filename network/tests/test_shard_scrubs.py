@@ -194,8 +194,11 @@ class Missing(NodeCase):
             lines = [it for it in self.said.getvalue().splitlines() if f"[Errno {code}]" in it and str(folder) in it]
             self.assertEqual(len(lines), 1)
             Files(folder)
-        shutil.rmtree(folder)
+        shutil.rmtree(folder)  # such as a link that leads nowhere
+        self.assertEqual(await recovery.settle(here, 0, [*self.names, await self.lacks(61)]), 3)
         away.rename(folder)
+        for seat in self.seats:
+            seat.asked.clear()
         self.assertEqual(await recovery.settle(here, 0, self.names), 0)
         self.assertEqual(([it.asked for it in self.seats], await self.lacked()), ([[]] * 4, {}))
 

@@ -8,6 +8,7 @@ import itertools
 import os
 import pathlib
 import secrets
+import tempfile
 from typing import Iterable
 
 from .. import client, wire
@@ -27,6 +28,12 @@ class Files:
 
     def path(self, name: str) -> pathlib.Path:
         return self.folder / name[:2] / name
+
+    def must_take(self, name: str) -> None:
+        """Raise `OSError` unless the folder for this name can be read and takes a file."""
+        folder = self.path(name).parent
+        with os.scandir(folder) as names, tempfile.TemporaryFile(dir=folder):
+            next(names, None)
 
     def write(self, identifier: bytes, *payloads: client.Data) -> list[str]:
         """Write contents of a blob to files and sync them; return their names. If a write fails, none of them stays."""

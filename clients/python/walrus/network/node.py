@@ -70,7 +70,8 @@ class Node(View):
         await self.turn()
         self.tasks.append(asyncio.create_task(self.watched(self.follow())))
         if not await self.until(lambda _: self.caught_up or self.failed.done(), 5):
-            why = "is away" if self.silence() > AWAY and not self.state.entering else "is still being read"
+            reads = self.silence() <= AWAY or self.state.entering or self.recorders.pieces  # a checkpoint takes long
+            why = "is still being read" if reads else "is away"
             print(f"{self.name}: the ledger {why}; this serves what is on the disk", file=sys.stderr, flush=True)
         context = ssl.create_default_context(ssl.Purpose.CLIENT_AUTH)
         context.load_cert_chain(self.settings.certificate, self.settings.key)

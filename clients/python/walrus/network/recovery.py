@@ -4,10 +4,8 @@ import contextlib
 import dataclasses
 import functools
 import itertools
-import os
 import sqlite3
 import sys
-import tempfile
 from collections.abc import AsyncIterator, Awaitable, Callable, Collection, Iterable, Iterator, Sequence
 from typing import TYPE_CHECKING, NamedTuple, Optional
 
@@ -267,9 +265,7 @@ async def fill(node: "Node", shard: Shard, identifier: bytes, late: bool = False
             tell_full(node)
             return False
         if FRONT + symbol * max(counts, default=0) > SMALL:  # a file, which its folder must take: else this raises
-            folder = node.store.files.path(identifier.hex()).parent
-            with os.scandir(folder) as names, tempfile.TemporaryFile(dir=folder):
-                next(names, None)
+            await node.judges.work(node.store.files.must_take, identifier.hex())
         asked_in, are_left_out = rounds(node, own, late)
         for side in asked_in:
             wanted = {part: client.write_frame(targets[part]) for part in lacks & {*shard.lacks(identifier)}}

@@ -231,7 +231,9 @@ class Store(Staged):
     def disk(self, reserve: float) -> Any:
         """Return the use of the disk that has less room beyond this part of it: the database's, or that of the files,
         whose folder may be on a disk of its own."""
-        disks = map(shutil.disk_usage, (self.path.parent, self.files.folder))
+        disks = [shutil.disk_usage(self.path.parent)]
+        with contextlib.suppress(OSError):  # what is written to a folder that is away fails by itself
+            disks.append(shutil.disk_usage(self.files.folder))
         return min(disks, key=lambda it: it.free - reserve * it.total)
 
     def counts(self, base: Optional[sqlite3.Connection] = None) -> dict[str, int]:
