@@ -181,9 +181,10 @@ class Trees(unittest.IsolatedAsyncioTestCase):
             self.kept, self.ends = dict.fromkeys(self.kept, 20), [30]
             self.assertEqual(await self.end(8), 20)  # what is there is not sent again
             self.refused, self.ends = {0, 1, 2}, []
+            slept.reset_mock()
             with self.assertRaisesRegex(Failure, "too much at once"):
                 await self.end(8)
-        self.assertLess(slept.call_count, 50)
+            self.assertEqual(slept.call_count, 4)  # for the first request, and then no other is sent
 
     async def test_a_large_file_that_changes_between_its_readings_is_no_proof_of_a_lie(self) -> None:
         async def ask(*_: object) -> Any:

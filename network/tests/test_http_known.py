@@ -180,7 +180,7 @@ class Known(GuardCase):
         alice, name = self.token("alice", bytes=9_000), "00" * 32
         places = Place("a", "a/b", 1, b"\1" * 32, 0), Place("b", "a/b", 1, b"\2" * 32, 0)
         self.files = {name: manifest_of(*places), "01" * 32: bytes(6_000), "03" * 32: bytes(2_000)}
-        self.files["02" * 32] = File(1, b"\3" * 32).listed()
+        self.files["02" * 32] = File(1, b"\3" * 32).listed()  # its name counts too
 
         async def ask(name: bytes) -> int:
             return len(self.files[name.hex()])
@@ -194,7 +194,7 @@ class Known(GuardCase):
             self.assertEqual((await self.ask("POST", f"/v1/extend/{name}?epochs=7", headers=alice))[0], status)
             shares = self.gateway.publisher.shares
             assert shares
-            self.assertEqual(shares.used("alice", 0), (len(self.files[name]) + 8_000, 4))
+            self.assertEqual(shares.used("alice", 0), (len(self.files[name]) + 8_032, 4))
 
     async def test_a_list_of_equal_pieces_costs_no_more_than_its_bytes(self) -> None:
         await self.start()

@@ -5,12 +5,14 @@ import os
 import time
 import types
 import unittest
+from typing import AsyncIterator
 from unittest import mock
 
+import aiohttp
 from guard_case import GuardCase
 from harness import usage_of
 from walrus.fairness import key_of
-from walrus.network import chunks, connections, reading
+from walrus.network import chunks, connections, reading, transfers
 from walrus.network import limits as limits_module
 from walrus.network.limits import Bucket, Limits, is_address, is_inner
 
@@ -69,6 +71,19 @@ class Impatient(GuardCase):
         self.assertEqual({*await asyncio.gather(*asked[4:])}, {200})
         self.assertEqual(await asyncio.gather(*asked[:4]), [201] * 4)
         self.assertGreater(time.monotonic() - begun, 1.9)  # 8 MB are there at first
+
+    async def test_an_upload_that_was_refused_half_sent_is_sent_again(self) -> None:
+        """On a connection of its own: on the one before, the rest of the first body is still awaited."""
+        await self.start(requests=1)
+
+        async def slowly() -> AsyncIterator[bytes]:
+            for _ in range(30):
+                await asyncio.sleep(0.1)
+                yield bytes(9_999)
+
+        async with aiohttp.ClientSession(self.url) as session:
+            works = [transfers.patiently(lambda: transfers.put(session, slowly(), 1)) for _ in range(3)]
+            self.assertEqual([it["size"] for it in await asyncio.gather(*works)], [299_970] * 3)
 
     async def status_of(self, path: str) -> int:
         return (await self.ask("GET", path))[0]

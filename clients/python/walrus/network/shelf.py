@@ -118,9 +118,9 @@ class Shelf:
         return file if place.offset is None else Part(place.length, b"", file, place.offset)
 
     async def consists(self, name: bytes, most: int) -> dict[bytes, int]:
-        """Returns the blobs of a file, or of all of a folder, the one of this name first, with the bytes of each; lists
-        of pieces have none. Raises `Problem` if one is uncertified or invalid, and `Many` if they are more than `most`.
-        """
+        """Returns the blobs of a file, or of all of a folder, the one of this name first, with the bytes of each: of a
+        list those of its names. Raises `Problem` if one is uncertified or invalid, and `Many` if they are more than
+        `most`."""
         async with self.reader.blob(name) as blob:
             file, front = File.of(name, blob), bytes(blob[: len(MARK)])
         found = dict[bytes, int]()
@@ -157,7 +157,7 @@ class Shelf:
     async def add_blobs(self, found: dict[bytes, int], name: bytes, file: File, most: int) -> None:
         """Adds the blobs of a file, each after a check that it is certified: invented identifiers take no memory. This
         takes seconds for the longest file; other tasks run meanwhile."""
-        found.setdefault(name, 0)
+        found.setdefault(name, 0 if file.names == name else len(file.names))  # anybody may list 16 MiB of equal names
         for number, (piece, size, _, _) in enumerate(file.pieces(0, file.length)):
             if number % TOGETHER == 0:
                 await asyncio.sleep(0)

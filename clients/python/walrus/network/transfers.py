@@ -126,7 +126,8 @@ async def patiently(call: Callable[[], Awaitable[Any]]) -> Any:
 
 async def put(session: aiohttp.ClientSession, parts: AsyncIterator[bytes], epochs: int) -> Any:
     """Stores a file that is sent in parts, and returns the gateway's answer."""
-    async with sending(session, "PUT", "/v1/blobs", parts, params={"epochs": epochs}) as response:
+    words: dict[str, Any] = {"params": {"epochs": epochs}, "headers": {"Connection": "close"}}  # it may end half sent
+    async with sending(session, "PUT", "/v1/blobs", parts, **words) as response:
         await check(response)
         return await json_of(response)
 

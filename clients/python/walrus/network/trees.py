@@ -11,7 +11,7 @@ from .entries import LAST_UNTIL
 from .groups import several
 from .manifest import Wrong, as_path, label_of, shown
 from .packing import SMALL, Folder
-from .transfers import PART, Bar, Failure, ask, must_name, naming_of, patiently, put
+from .transfers import PART, Bar, Busy, Failure, ask, must_name, naming_of, patiently, put
 
 WIDTH = 4  # parts of a folder that are sent or fetched at once
 KINDS = {stat.S_IFLNK: "a link", stat.S_IFSOCK: "a socket", stat.S_IFIFO: "a pipe"}
@@ -69,7 +69,9 @@ class Sending:
         """Whether a blob is certified, and kept for long enough; False if the gateway does not tell."""
         try:
             told = await patiently(lambda: ask(self.session, "GET", f"/v1/status/{name.hex()}"))
-        except Failure:
+        except Failure as fault:
+            if isinstance(fault, Busy):
+                raise  # each further piece would be asked for as patiently
             return False
         is_kept = bool(told["certificate"]) and not told["invalid"] and told["endEpoch"] >= self.until
         self.end = min(self.end, told["endEpoch"]) if is_kept else self.end
