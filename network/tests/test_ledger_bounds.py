@@ -122,7 +122,7 @@ class Writers(unittest.IsolatedAsyncioTestCase):
 
     async def test_the_others_wait_for_as_long_as_pieces_come_and_replace_a_writer_that_ends(self) -> None:
         asyncio.get_running_loop().set_debug(False)
-        self.enterContext(mock.patch.multiple(keeping, GRACE=0.3, LEAST=10))
+        self.enterContext(mock.patch.multiple(keeping, GRACE=1.0, LEAST=10))
         self.enterContext(mock.patch.object(checkpoint, "LONGEST", 300))
         for full in (True, False):  # within an epoch, and after a turn
             for ends in (False, True):

@@ -145,8 +145,8 @@ def is_signed(certificate: x509.Certificate, authority: x509.Certificate) -> boo
 
 
 def signer(certificate: x509.Certificate, authorities: Iterable[pathlib.Path]) -> Optional[pathlib.Path]:
-    """Returns which of these authorities, of which PATH.crt is read, has signed a certificate; None if others did."""
-    return next((it for it in authorities if is_signed(certificate, read(it.with_name(f"{it.name}.crt")))), None)
+    """Returns which of these authorities, by its name in PATH.crt, is the issuer of a certificate; None if none is."""
+    return next((it for it in authorities if certificate.issuer == read(it.with_name(f"{it.name}.crt")).subject), None)
 
 
 def fault_of_key(key: pathlib.Path, certificate: pathlib.Path) -> str:

@@ -32,10 +32,10 @@ def check(path: pathlib.Path) -> tuple[str, list[str], list[str]]:
     soon = []
     if role == GatewaySettings.role:
         places = tokens.places(pathlib.Path(told["authority"]).parent, told.get("tokens", ""), told.get("used", ""))
-        faults += filter(None, [tokens.fault_of(*places)])
+        faults += filter(None, [lost := tokens.fault_of(*places)])
         told |= {"tokens": places[0], "used": places[2]}
         is_exposed = told.get("proxies") or not is_loopback(told.get("host", GatewaySettings.host))
-        if is_exposed and not places[0].exists():
+        if is_exposed and not lost and not os.path.exists(places[0]):
             soon.append(f"anyone who reaches it may read, as {places[0]} is not there: bring it back if there was one")
     pairs = [("authority", "certificate", "key", told["name"])]
     pairs += [("etcd_authority", "etcd_certificate", "etcd_key", None)] if "etcd" in told else []

@@ -69,8 +69,9 @@ class Keeper:
     async def is_due(self, mark: Optional[Mark]) -> bool:
         """Whether the next checkpoint is to be written: the epoch has none yet, or so much was appended since its last
         one that etcd is nearly full. Otherwise nothing could be appended any more, not even what ends the epoch. One
-        recorder alone writes, as etcd may have no room for the checkpoints of all: the one that appended the epoch
-        change, or the one beside etcd's leader. Others wait until no piece has come for `GRACE` seconds."""
+        recorder alone begins, as etcd may have no room for the checkpoints of all: the one that appended the epoch
+        change, or the one beside etcd's leader. Others, and that one once it has failed, wait until no piece has come
+        for `GRACE` seconds."""
         recorder, place, epoch = self.recorder, mark.place if mark else 0, mark.epoch if mark else 0
         turned, least = recorder.ledger.epoch > epoch, LEAST + len(recorder.ledger.blobs) // 4
         if not turned and (recorder.chain.place - place <= least or not await self.is_full()):
@@ -78,7 +79,8 @@ class Keeper:
             return False
         if (found := (place, await self.etcd.count_pieces(place))) != self.found:
             self.found, self.since = found, time.monotonic()
-        return (recorder.turned if turned else await self.etcd.leads()) or time.monotonic() > self.since + GRACE
+        first = not found[1] and (recorder.turned if turned else await self.etcd.leads())
+        return first or time.monotonic() > self.since + GRACE
 
     def is_over(self, mark: Mark) -> bool:
         """Whether all nodes of both committees have posted that they are past a checkpoint's epoch, which this recorder

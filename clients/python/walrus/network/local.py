@@ -99,15 +99,18 @@ class Local:
     def renew(self) -> None:
         """Makes the certificates anew that expire soon, or that are not valid yet, as the clock was fast when they were
         made: the authorities', whose keys stay, and those that they have signed. All that uses them starts later."""
-        authorities = [self.folder / AUTHORITY, self.folder / ETCD_AUTHORITY]
+        known = [it for it in (AUTHORITY, ETCD_AUTHORITY) if (self.folder / f"{it}.key").exists()]
+        authorities = [self.folder / it for it in known]
         for path in [*self.folder.glob("*.crt"), *self.folder.glob("users/*.crt")]:
             old, name = certificates.read(path), path.with_suffix("")
             if certificates.days_left(old) > certificates.SOON and not certificates.early(old):
                 continue
+            left = certificates.days_left(old)  # if the clock is slow now, what is made must last once it is set
             if name in authorities:
-                certificates.make_authority(name)
+                certificates.make_authority(name, max(left, certificates.AUTHORITY_DAYS))
             elif by := certificates.signer(old, authorities):
-                certificates.make(name, by, certificates.common_name(old), certificates.names_of(old))
+                words = certificates.common_name(old), certificates.names_of(old), max(left, certificates.DAYS)
+                certificates.make(name, by, *words)
 
     def machine(self) -> Machine:
         """Returns this machine, whose files are all in the folder."""

@@ -66,8 +66,10 @@ def detach(folder: pathlib.Path) -> int:
         process = subprocess.Popen(line, stdin=subprocess.DEVNULL, stdout=out, stderr=out, start_new_session=True)
     end = time.monotonic() + LONGEST
     while "\nready\n" not in (said := log.read_bytes()[before:].decode(errors="replace")):
-        if process.poll() is not None or time.monotonic() > end:
+        if process.poll() is not None:
             raise Failure(f"the network is not up: {said.strip()[-500:]}", 1)
+        if time.monotonic() > end:
+            raise Failure(f"the network starts for {LONGEST} s: kill {process.pid} ends it, and {log} tells of it", 1)
         time.sleep(0.1)
     print(f"{said.strip()}: kill {process.pid} ends it, and {log} tells of it")
     return 0
