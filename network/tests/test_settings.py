@@ -92,12 +92,14 @@ class Values(SettingsCase):
         self.assertEqual(check(self.change("recorder", host='""'))[1], [])
 
     async def test_what_a_setting_leaves_out_or_shuts_off_is_taken(self) -> None:
-        for name, values in (
-            ("alpha", {"scrub": "0", "heal": "0", "reserve": "0.0", "kept": "0"}),
-            ("alpha", {"reserve": "1.0"}),
-            ("gate", {"challenge": "0", "requests": "0", "rate": "0.0", "proxies": '["10.0.0.1", "fd00::1"]'}),
+        for name, values, told in (
+            ("alpha", {"scrub": "0", "heal": "0", "reserve": "0.0", "kept": "0"}, []),
+            ("alpha", {"reserve": "1.0"}, []),
+            ("gate", {"challenge": "0", "requests": "0", "rate": "0.0"}, []),
+            ("gate", {"proxies": '["10.0.0.1", "fd00::1"]'}, ["anyone who reaches it may read"]),
         ):
-            self.assertEqual(check(self.change(name, **values))[1:], ([], []))
+            faults, soon = check(self.change(name, **values))[1:]
+            self.assertEqual((faults, [it.partition(",")[0] for it in soon]), ([], told))
 
     async def test_options_of_a_command_line_have_the_same_bounds(self) -> None:
         for words, wanted in (
