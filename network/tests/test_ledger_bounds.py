@@ -1,5 +1,6 @@
 """What one name can leave in the ledger, and at everyone who follows it, is bounded, whatever it posts or withholds."""
 import asyncio
+import itertools
 import random
 import tracemalloc
 import types
@@ -124,14 +125,14 @@ class Writers(unittest.IsolatedAsyncioTestCase):
         asyncio.get_running_loop().set_debug(False)
         self.enterContext(mock.patch.multiple(keeping, GRACE=1.0, LEAST=10))
         self.enterContext(mock.patch.object(checkpoint, "LONGEST", 300))
-        for full in (True, False):  # within an epoch, and after a turn
-            for ends in (False, True):
-                with self.subTest(full=full, ends=ends):
-                    places, last = await self.written(full, ends)
-                    self.assertEqual((len(places), last), (1 + ends, max(places)))
+        for full, ends, late in itertools.product((True, False), repeat=3):  # within an epoch, and after a turn
+            with self.subTest(full=full, ends=ends, late=late):
+                places, last = await self.written(full, ends, late)
+                self.assertEqual((len(places), last), (1 + ends, max(places)))
 
-    async def written(self, full: bool, ends: bool) -> tuple[set[int], int]:
-        """Returns the places of all pieces once a checkpoint is there, and its place."""
+    async def written(self, full: bool, ends: bool, late: bool) -> tuple[set[int], int]:
+        """Returns the places of all pieces once a checkpoint is there, and its place. If `late`, the other recorder is
+        the one that is to write, but only once the first one has begun, as if it had started anew since."""
         memory, put = Memory(), Memory.put_piece
         first, other = recorder.Recorder(memory), recorder.Recorder(memory)
         for made in (first, other):
@@ -151,6 +152,9 @@ class Writers(unittest.IsolatedAsyncioTestCase):
         await asyncio.sleep(0)
         self.assertTrue(await first.step(Batch(first.chain, [registration("x", 30, 9)])))
         await other.catch_up()
+        while not memory.pieces:
+            await asyncio.sleep(0.01)
+        memory.leading, other.turned = late and full, late and not full
         while not memory.marked:
             await beside.look()
             await asyncio.sleep(0.01)

@@ -69,7 +69,8 @@ def detach(folder: pathlib.Path) -> int:
         if process.poll() is not None:
             raise Failure(f"the network is not up: {said.strip()[-500:]}", 1)
         if time.monotonic() > end:
-            raise Failure(f"the network starts for {LONGEST} s: kill {process.pid} ends it, and {log} tells of it", 1)
+            told = f"after {LONGEST} s the network still starts: kill {process.pid} ends it, and {log} tells of it"
+            raise Failure(told, 1)
         time.sleep(0.1)
     print(f"{said.strip()}: kill {process.pid} ends it, and {log} tells of it")
     return 0
