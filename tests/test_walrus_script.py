@@ -24,6 +24,7 @@ case $1 in
         exit 0 ;;
 esac
 [ $1 = doc ] && echo "$(dirname "$0")/START-HERE.md" && exit
+[ $1 = try ] && echo "tried in $(basename "$PWD"): $* of $(cat)" && exit "${STATUS-0}"
 shift 3 # run --jobs N
 echo "run $*" >>"$0.calls"
 cpu=default
@@ -81,6 +82,23 @@ class Script(unittest.TestCase):
 
     def calls(self):
         return (self.top / "bin" / "rt.calls").read_text().splitlines()
+
+
+class Tried(Script):
+    """The program before any proof."""
+
+    def try_it(self, **variables):
+        child = self.start("--try", "id", "1", **variables)
+        said, told = child.communicate()
+        return child.returncode, said, told
+
+    def test_the_words_and_the_input_reach_rt_and_its_status_comes_back(self):
+        self.assertEqual(self.try_it()[:2], (0, "tried in walrus: try --seconds 300 -- id 1 of \n"))
+        self.assertEqual(self.try_it(STATUS="7")[0], 7)
+
+    def test_it_says_that_nothing_is_proved_and_leaves_no_program(self):
+        self.assertIn("nothing that this prints is proved", self.try_it()[2])
+        self.assertFalse((self.top / "crates" / "walrus" / "out").exists())
 
 
 class Building(Script):
