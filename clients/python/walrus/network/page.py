@@ -36,7 +36,7 @@ FIGURE_NAMES = {  # what the status has of a node's figures, by group
     "disk": ("bytes", "used", "free", "reserve"),
     "memory": ("bytes", "taken"),
     "recovered": ("epoch", "of", "of_bytes", "blobs", "bytes"),
-    "scrub": ("running", "begun", "ended", "blobs", "bytes", "wrong", "swept"),
+    "scrub": ("running", "begun", "ended", "blobs", "bytes", "wrong", "swept", "unnamed"),
 }
 DRAWN = random.SystemRandom()
 
