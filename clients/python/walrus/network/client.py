@@ -63,7 +63,8 @@ class Network(View):
         super().__init__(recorders, State.open(access.state) if kept else State())
         self.user, self.walrus = access.user, Calls.of(access.program)
         self.authority, self.certificate = pathlib.Path(access.authority), pathlib.Path(access.certificate)
-        self.peers = Peers(self.ledger, self.authority, seconds)
+        self.files = access.certificate, access.key  # shown to nodes
+        self.peers = Peers(self.ledger, self.authority, seconds, self.files)
         self.task: Optional["asyncio.Task[None]"] = None
         self.late, self.behind = set["asyncio.Task[dict[int, str]]"](), collections.Counter[str]()
         self.walrus.few = lambda: self.ledger.faults <= FEW

@@ -15,7 +15,10 @@ from ..frames import answer
 from ..port import Bounds, Connection, Port, Said
 
 from . import certificates, whole
+from .configuration import MEMBERS
+from .entries import OPERATOR
 from .peers import FIGURES, SCRUB
+from .shard import DECLINED
 from .times import Times
 
 if TYPE_CHECKING:
@@ -33,6 +36,7 @@ NAMES = {  # of requests, as labels of metrics
     client.FORGET: "forget",
     whole.WHOLE: "store",
 }
+READS = client.READ, client.SYMBOL  # requests whose replies have contents of blobs
 FRESH, MOMENT = 10.0, 1.0  # seconds until what is held is counted again; to wait for a count at most
 
 
@@ -54,6 +58,8 @@ class NodePort(Port):
         return said
 
     async def answer_one(self, client: Connection, sender: int, payload: Optional[Data]) -> Said:
+        if not self.may_ask(client, payload):
+            return Said(parts([answer(DECLINED)], sender))
         if payload and payload[0] == whole.WHOLE:
             client.had_reply = True
             return await self.node.reply(sender, payload)
@@ -63,6 +69,15 @@ class NodePort(Port):
             self.node.scrub.now.set()
         client.had_reply = True
         return Said(parts([FIGURES + json.dumps(self.figures()).encode(), answer(0, 1)], sender))
+
+    def may_ask(self, asking: Connection, payload: Optional[Data]) -> bool:
+        """Return whether a client may ask this, by the name in its certificate. Orders are the operator's alone, and
+        where `reads` says so, only members of the network may read."""
+        kind, name = payload[0] if payload else 0, certificates.peer_name(asking.certificate)
+        if kind == SCRUB[0]:
+            return name == OPERATOR
+        is_for_members = kind in READS and self.node.settings.reads == MEMBERS
+        return bool(name) or not is_for_members
 
     async def expect(self, request: Optional[Data]) -> None:
         if request and request[0] == whole.WHOLE:

@@ -74,7 +74,7 @@ class Watch:
         self.network, self.options, self.sorter = network, options, sorter
         self.memory, self.turns = memory, Turns(CHALLENGES)
         # Its own, so that no check waits behind a long transfer.
-        self.peers = Peers(network.ledger, network.authority, 10)
+        self.peers = Peers(network.ledger, network.authority, 10, network.files)
         self.faults, self.figures = dict[str, str](), dict[str, Figures]()
         self.findings: "collections.deque[Finding]" = collections.deque(maxlen=FINDINGS)
         self.held: "collections.Counter[str]" = collections.Counter()
