@@ -121,6 +121,7 @@ class NodePort(Port):
             "memory": {"bytes": room.size, "taken": room.size - room.free},
             "judged": node.judges.count,
             "recovered": dataclasses.asdict(node.progress),
+            "waits": node.waits,
             "scrub": dataclasses.asdict(node.scrub.figures),
         }
 

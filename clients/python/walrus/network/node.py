@@ -24,7 +24,8 @@ from .entries import LAST_EPOCH
 from .ledger import ACK, ATTEST, REGISTER, Entry, entry_key
 from .notify import lose_lines, ready
 from .peers import Peers
-from .recovery import Progress, passing, settle
+from .progress import Progress
+from .recovery import passing, settle
 from .scrub import AT_ONCE, Scrub
 from .settings import Settings
 from .shard import DECLINED, FULL, NO_MEMORY, Past, Shard
@@ -58,6 +59,7 @@ class Node(View):
         self.failed: "asyncio.Future[None]" = asyncio.get_running_loop().create_future()
         self.port = NodePort(self, Bounds(settings.connections, REQUEST, IDLE, settings.kept))
         self.scrub, self.intake, self.progress = Scrub(self), Intake(self), Progress()
+        self.waits = dict[str, Any]()  # the blobs without which a handover does not go on here
         self.tasks, self.numbers = list["asyncio.Task[None]"](), None  # type: Any, Any
         self.turned: object = None  # the epoch and committees that `turn` last set up
         self.wrong: "asyncio.Queue[bytes]" = asyncio.Queue()  # blobs of which a part was found wrong on the disk
