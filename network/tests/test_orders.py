@@ -6,7 +6,7 @@ from typing import Any, Callable
 from harness import FOUR, NetworkCase
 from walrus import client
 from walrus.network.ledger import OPERATOR
-from walrus.network.peers import FIGURES, SCRUB, Peers
+from walrus.network.peers import FIGURES, HELD, HOLDS, LACKS, SCRUB, Peers
 
 
 class Orders(NetworkCase):
@@ -15,6 +15,7 @@ class Orders(NetworkCase):
         await self.local.up(FOUR)
         async with self.local.network() as network, self.local.network(OPERATOR) as operator:
             name = await self.store(network, 400_000)
+            self.assertTrue(await network.until(lambda it: it.certificate(name) == (0, 4)))
             stranger = Peers(network.ledger, network.authority, 10)
             self.addAsyncCleanup(stranger.close)
             for peers in (stranger, network.peers):
@@ -39,6 +40,9 @@ class Orders(NetworkCase):
             with self.assertRaises(client.Refused):
                 await client.fetch(stranger.seats(network.ledger.now, 1), name, network.walrus)
             await self.reads_all(network)
+            known = HELD + name + bytes(32)
+            self.assertEqual(await network.peers.answered("node-0", known, 10), HELD + bytes([HOLDS, LACKS]))
+            self.assertEqual((await stranger.answered("node-0", known, 10))[:1], b"\x30")
 
 
 if __name__ == "__main__":

@@ -182,7 +182,7 @@ class Storing(unittest.IsolatedAsyncioTestCase):
         return {seats[0].number: said}
 
     async def put_all(self, is_over: Callable[[Ledger], bool] = lambda _: False) -> dict[int, str]:
-        return await Network.put_all(self.network, self.encoded, self.seats, is_over, asyncio.Event())
+        return await Network.put_all(self.network, self.encoded, self.seats, is_over, asyncio.Event(), set())
 
     async def test_what_each_said_is_told(self) -> None:
         storing = asyncio.create_task(self.put_all())

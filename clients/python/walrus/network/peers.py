@@ -23,6 +23,8 @@ LANES, LARGE = 8, 4_194_304  # exchanges with a shard at once; bytes from which 
 SMALL, TOGETHER, MANY = 32_768, 262_144, 64  # a small request has at most SMALL bytes; limits of those sent together
 Storing = dict["asyncio.Future[str]", list[client.Data]]  # requests to store blobs, by the future of the result
 FIGURES, SCRUB = b"\x60", b"\x61"  # requests for a node's figures: alone, or, from the operator, with a scrub begun
+HELD, ASKED = b"\x63", 1_000  # the question which blobs a node holds, before their identifiers; the most of these
+LACKS, HOLDS, UNSEEN = range(3)  # what it answers for each, behind the same byte; `UNSEEN`: it had not the time
 DECLINES = b"\x30"  # the kind of an answer, which comes first if the request is declined
 
 
