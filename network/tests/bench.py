@@ -20,6 +20,7 @@ sys.path.insert(0, str(pathlib.Path(__file__).resolve().parents[2] / "clients" /
 
 from walrus.network import judge  # noqa: E402
 from walrus.network.client import Network  # noqa: E402
+from walrus.network.entries import OPERATOR  # noqa: E402
 from walrus.network.local import Local, find_program  # noqa: E402
 from walrus.network.peers import FIGURES, SCRUB  # noqa: E402
 from walrus.network.store import Store  # noqa: E402
@@ -141,7 +142,8 @@ class Bench:
     async def mend(self, network: Network, name: str, blobs: int, size: int) -> None:
         """Times a scrub of a node, and how it is filled anew by the others."""
         start = time.monotonic()
-        await network.peers.told(name, SCRUB)
+        async with self.local.network(OPERATOR) as operator:
+            await operator.peers.told(name, SCRUB)
         await self.figures(network, name, lambda told: told["scrub"]["ended"] > told["scrub"]["begun"] > 0)
         tell("  a scrub", time.monotonic() - start, size, blobs)
         await self.refill(network, name, blobs, size)

@@ -20,6 +20,12 @@ from walrus.network.store import Store
 from walrus.network.whole import Whole, place, request_of
 from walrus.port import Bounds, Port
 
+SETTINGS = {
+    "scrub": 30.0,
+    "scrub_rate": 10**9,
+    "reserve": 0.0,
+    "grace": 3_600.0,
+}  # of a node, as far as it needs them
 SMALL, LARGE = 1_000, 3_000  # bytes: the longest content in SQLite here; a blob whose slivers are files
 
 
@@ -142,6 +148,7 @@ class NodeCase(ShardCase):
         """Return what a handover needs of a node; it collects what it posts."""
         node = types.SimpleNamespace(name="a", store=self.store, ledger=self.ledger, sides=sides, posted=[], vouched=[])
         node.caught_up, node.judges, node.repairs = True, self.judges, judge.Room(10_000_000)
+        node.settings, node.waits = types.SimpleNamespace(**SETTINGS), dict[str, Any]()
         node.unattested, node.state = set[bytes](), types.SimpleNamespace(base=self.ledger.blobs.base)
         node.peers = types.SimpleNamespace(seats=lambda owners, faults: self.seats)
         node.port = Port(mock.AsyncMock(), client.Shape(1), Bounds())

@@ -159,12 +159,12 @@ class StormCase(NetworkCase):
 
         await self.repeat(step, 4, 20)
 
-    async def scrub(self, network: Network) -> None:
+    async def scrub(self, operator: Network) -> None:
         """A node is told to read and judge all that it holds."""
 
         async def step() -> None:
             with contextlib.suppress(ConnectionError):
-                await network.peers.told(self.drawn.choice(NODES), SCRUB)
+                await operator.peers.told(self.drawn.choice(NODES), SCRUB)
                 self.counts["scrubs"] += 1
 
         await self.repeat(step, 2, 6)

@@ -92,7 +92,7 @@ class DiskCase(unittest.IsolatedAsyncioTestCase):
         self.node: Any = types.SimpleNamespace(name="a", store=self.store, sides={}, caught_up=False)
         self.node.ledger = types.SimpleNamespace(blobs=types.SimpleNamespace(over=lambda count: [], base=None))
         self.node.state = types.SimpleNamespace(base=None)
-        self.node.settings = types.SimpleNamespace(scrub=0, scrub_rate=10**9)
+        self.node.settings = types.SimpleNamespace(scrub=0, scrub_rate=10**9, reserve=0.0, grace=3_600.0)
         self.enterContext(mock.patch.object(scrub, "PAUSE", 0.05))
         self.scrub = Scrub(self.node)
 

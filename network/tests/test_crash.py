@@ -60,7 +60,7 @@ class Crash(unittest.IsolatedAsyncioTestCase):
                 self.assertEqual(base.execute(orphans).fetchone(), (0,))
             for number in range(256):
                 store.files.sweep(f"{number:02x}", names)
-            left = {it.name for it in store.files.folder.glob("*/*")}
+            left = {it.name for it in store.files.folder.glob("[0-9a-f][0-9a-f]/*")}
             self.assertEqual((left, [it for it in left if it.endswith(HALF)]), (names, []))
         finally:
             store.close()

@@ -145,11 +145,11 @@ class Trees(unittest.IsolatedAsyncioTestCase):
     async def output(self, *_: object, data: bytes) -> bytes:
         return hashlib.sha256(data).hexdigest().encode()
 
-    async def ask(self, _: object, __: str, path: str) -> Any:
+    async def ask(self, _: object, __: str, path: str, params: dict[str, str]) -> Any:
         self.must_be_few()
         if (end := self.kept.get(path.rpartition("/")[2])) is None:
             raise Failure("no such blob", 4)
-        return {"certificate": {"epoch": 3, "count": 4}, "invalid": False, "endEpoch": end}
+        return {"certificate": {"epoch": 3, "count": 4}, "invalid": False, "endEpoch": end, "held": "held" in params}
 
     async def put(self, _: object, parts: AsyncIterator[bytes], __: int) -> dict[str, Any]:
         self.must_be_few()
@@ -187,7 +187,7 @@ class Trees(unittest.IsolatedAsyncioTestCase):
             self.assertEqual(slept.call_count, 4)  # for the first request, and then no other is sent
 
     async def test_a_large_file_that_changes_between_its_readings_is_no_proof_of_a_lie(self) -> None:
-        async def ask(*_: object) -> Any:
+        async def ask(*_: object, **__: object) -> Any:
             (self.top / "large").write_bytes(b"other" * SMALL)
             raise Failure("no such blob", 4)
 

@@ -44,7 +44,8 @@ class Trees(unittest.IsolatedAsyncioTestCase):
     async def status_of(self, request: web.Request) -> web.Response:
         if request.match_info["name"] not in self.files:
             return web.json_response({"error": {"status": 404, "text": "none"}}, status=404)
-        return web.json_response({"certificate": {"epoch": 3, "count": 4}, "invalid": False, "endEpoch": 8})
+        told = {"certificate": {"epoch": 3, "count": 4}, "invalid": False, "endEpoch": 8}
+        return web.json_response(told | ({"held": True} if "held" in request.query else {}))
 
     async def give(self, request: web.Request) -> web.Response:
         name = request.match_info["name"]

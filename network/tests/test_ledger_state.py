@@ -75,7 +75,11 @@ class States(RulesCase):
             checkpoint.state_of([pieces[0][:-9]])
         self.assertNotEqual(checkpoint.state_of(pieces), checkpoint.state_of(pieces * 2))
         asyncio.run(one.take(pieces))
-        self.assertEqual(one.blobs.over(9), [bytes.fromhex(names[0])])
+        self.assertEqual(one.blobs.over(9), [])  # its time is not over, so its parts are not dropped before that
+        self.assertNotIn(bytes.fromhex(names[0]), one.blobs)
+        one.blobs.epoch = 2
+        self.assertIn(bytes.fromhex(names[0]), one.blobs.over(9))
+        one.blobs.epoch = 0
         self.same(one.ledger, other.ledger)
 
     def test_the_tail_reaches_back_behind_the_turn_before_the_last_one(self) -> None:

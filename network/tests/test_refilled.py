@@ -89,7 +89,7 @@ class Refilled(NetworkCase):
     async def test_a_scrub_finds_what_went_wrong_and_goes_on_where_it_was(self) -> None:
         self.local.options |= {"heal": 3_600, "scrub_rate": 200_000}
         await self.local.up(FOUR)
-        async with self.local.network() as network:
+        async with self.local.network() as network, self.local.network(OPERATOR) as operator:
             for _ in range(6):
                 await self.store(network, 300_000)
             await self.recovered("node-3", 12)
@@ -98,7 +98,7 @@ class Refilled(NetworkCase):
                 self.flip(path, 50_000)
             (self.folder / "node-3.parts" / "ab").mkdir(exist_ok=True)
             (self.folder / "node-3.parts" / "ab" / "nobody").write_bytes(b"x")
-            told = await network.peers.told("node-3", SCRUB)
+            told = await operator.peers.told("node-3", SCRUB)
             self.assertEqual((told["held"]["blobs"], told["scrub"]["running"]), (6, False))
             await asyncio.sleep(4)
             begun = (await network.peers.told("node-3", FIGURES))["scrub"]

@@ -1,7 +1,6 @@
 """What a node recovers for its shard from others."""
 import asyncio
 import sqlite3
-import types
 import unittest
 from unittest import mock
 
@@ -146,10 +145,11 @@ class Recovery(NodeCase):
     async def test_where_the_system_gives_no_descriptor_a_node_goes_on_later(self) -> None:
         assert self.store
         name, node = await self.lacks(700), self.node({0: {0: self.shard}})
-        node.caught_up, node.settings, node.wrong = True, types.SimpleNamespace(heal=0.05), asyncio.Queue()
+        node.caught_up, node.settings.heal, node.wrong = True, 0.05, asyncio.Queue()
         self.enterContext(mock.patch.object(handover, "LATEST", 0.05))
         self.enterContext(mock.patch.object(scrub, "PAUSE", 0.05))
-        (self.store.files.folder / "unnamed").write_bytes(b"x")
+        stray, aside = (self.store.files.folder / it / "nobody" for it in ("00", "unnamed"))
+        stray.write_bytes(b"x")
         with mock.patch.object(self.store, "path", self.path / "none"):
             works = handover.heal(node), Node.mend(node), scrub.Scrub(node).sweep_always()
             tasks = [asyncio.create_task(work) for work in works]
@@ -158,12 +158,11 @@ class Recovery(NodeCase):
             self.assertEqual([it.done() for it in tasks], [False] * 3)
             with self.assertRaises(sqlite3.OperationalError):
                 self.store.reader()
-        await self.left(0)
         for _ in range(200):
-            if self.shard.settled(name):
+            if self.shard.settled(name) and aside.exists():
                 break
             await asyncio.sleep(0.05)
-        self.assertTrue(self.shard.settled(name))
+        self.assertEqual((self.shard.settled(name), stray.exists(), aside.exists()), (True, False, True))
         for task in tasks:
             task.cancel()
         await asyncio.gather(*tasks, return_exceptions=True)

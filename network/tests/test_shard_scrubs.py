@@ -4,6 +4,7 @@ import contextlib
 import errno
 import io
 import json
+import os
 import shutil
 import time
 import types
@@ -39,7 +40,7 @@ class Scrubs(NodeCase):
             return found
 
         node = self.node({0: {0: self.shard}})
-        node.settings = types.SimpleNamespace(scrub=30.0, scrub_rate=1_000)
+        node.settings.scrub_rate = 1_000
         done = scrub.Scrub(node)
         clock = types.SimpleNamespace(monotonic=lambda: now, time=lambda: now)
         with mock.patch.object(scrub, "time", clock), mock.patch.object(asyncio, "sleep", sleeping):
@@ -54,7 +55,7 @@ class Scrubs(NodeCase):
     async def test_a_scrub_that_ended_while_the_clock_was_ahead_keeps_none_from_beginning(self) -> None:
         assert self.store
         node, now, begun = self.node({0: {0: self.shard}}), time.time(), asyncio.Event()
-        node.settings = types.SimpleNamespace(scrub=1.0, scrub_rate=1_000)
+        node.settings.scrub = 1.0
         done = scrub.Scrub(node)
         done.figures.ended = now + 365 * scrub.DAY
         done.note()
@@ -73,20 +74,63 @@ class Scrubs(NodeCase):
             await asyncio.wait_for(begun.wait(), 30)
             task.cancel()
 
-    async def test_a_scrub_drops_what_the_whole_ledger_no_longer_has(self) -> None:
+    async def test_a_scrub_drops_what_the_whole_ledger_has_not_named_for_a_while(self) -> None:
         """Such as blobs that expired by a checkpoint, if the node was killed after it loaded that."""
         assert self.store
         kept, over = [(await self.put(data))[1][1:33] for data in (b"kept", bytes(LARGE))]
-        node = self.node({0: {0: self.shard}})
-        node.settings = types.SimpleNamespace(scrub=30.0, scrub_rate=10**9)
-        node.ledger = types.SimpleNamespace(blobs={kept: None})
+        node, now, blobs = self.node({0: {0: self.shard}}), time.time(), {kept: None}
+        node.ledger = types.SimpleNamespace(blobs=blobs)
         self.assertGreater(count := len(self.files()), 0)
-        for heard, held, files in ((False, [3, 3], count), (True, [3, 0], 0)):
-            node.caught_up = heard
-            await scrub.Scrub(node).scrub()
-            await self.left(files)
-            sizes = [self.store.sizes(self.shard.holding, 0, name) for name in (kept, over)]
-            self.assertEqual([*map(len, sizes)], held)
+        clock = types.SimpleNamespace(monotonic=time.monotonic, time=lambda: now)
+        steps = [(False, 0.0, 3), (True, 0.0, 3), (True, -99.0, 3), (True, 3_500.0, 3), (True, 7_000.0, 3)]
+        with mock.patch.object(scrub, "time", clock), mock.patch("walrus.network.store.time", clock):
+            for heard, seconds, held in (*steps, (True, 3_700.0, 3), (True, 3_700.0, 0)):
+                node.caught_up, now = heard, now + seconds
+                blobs.update({over: None} if seconds == 7_000 else {})  # it is named in between, and counts anew
+                if seconds != 7_000:
+                    blobs.pop(over, None)
+                await scrub.Scrub(node).scrub()
+                await self.left(count if held else 0)
+                sizes = [self.store.sizes(self.shard.holding, 0, name) for name in (kept, over)]
+                self.assertEqual([*map(len, sizes)], [3, held], seconds)
+
+    async def test_what_no_entry_names_goes_at_once_where_the_disk_has_no_room(self) -> None:
+        assert self.store
+        name = (await self.put(bytes(LARGE)))[1][1:33]
+        node = self.node({0: {0: self.shard}})
+        node.ledger, self.shard.reserve = types.SimpleNamespace(blobs={}), 0.1
+        for free, held in ((0.2, 3), (0.05, 0)):
+            with self.free(free):
+                await scrub.Scrub(node).scrub()
+            self.assertEqual(len(self.store.sizes(self.shard.holding, 0, name)), held)
+
+    async def test_a_file_without_a_row_is_kept_aside_for_a_while_and_goes_back_if_it_is_named_again(self) -> None:
+        assert self.store
+        await self.put(bytes(LARGE))
+        node, [file, *others] = self.node({0: {0: self.shard}}), self.files()
+        row = self.store.base.execute("SELECT * FROM contents WHERE file = ?", (file.name,)).fetchone()
+        aside, half = self.store.files.folder / "unnamed" / file.name, file.with_name("1.half")
+        self.close()
+        self.open()  # what this process wrote itself is not touched
+        node.store = self.store
+        half.touch()
+        self.store.base.execute("DELETE FROM contents WHERE file = ?", (file.name,))
+        sweeping = scrub.Scrub(node)
+        await sweeping.sweep()
+        self.assertEqual((aside.exists(), file.exists(), half.exists()), (True, False, False))
+        await sweeping.sweep()
+        self.assertTrue(aside.exists())
+        self.store.base.execute("INSERT INTO contents VALUES (?, ?, ?)", row)
+        await sweeping.sweep()
+        self.assertEqual((aside.exists(), file.exists(), self.store.counts()["wrong"]), (False, True, 0))
+        self.store.base.execute("DELETE FROM contents WHERE file = ?", (file.name,))
+        for age, is_there in ((-99_999, True), (3_500, True), (3_700, False)):
+            await sweeping.sweep()
+            self.assertTrue(aside.exists())
+            os.utime(aside, (time.time() - age,) * 2)
+            await sweeping.sweep()
+            self.assertEqual(aside.exists(), is_there, age)
+        self.assertTrue(all(it.exists() for it in others))
 
     async def test_what_is_wrong_stays_so_while_nothing_is_judged_of_it(self) -> None:
         """Otherwise a node without its ledger, or in a committee after a blob's last epoch, would report it as held."""
@@ -108,7 +152,7 @@ class Scrubs(NodeCase):
         self.store.base.executemany("INSERT INTO held VALUES (?, ?, ?, ?, ?, ?, ?, ?)", rows)
         name = await self.certified(b"it is held")
         node = self.node({0: {0: self.shard}})
-        node.settings = types.SimpleNamespace(scrub_rate=1_000_000)
+        node.settings.scrub_rate = 1_000_000
         for node.caught_up in (False, True):
             scrubbing = scrub.Scrub(node)
             following = mock.Mock(side_effect=self.store.next)

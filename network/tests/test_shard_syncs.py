@@ -56,6 +56,27 @@ class Slow(unittest.IsolatedAsyncioTestCase):
             while len(self.syncs) < count:
                 await asyncio.sleep(0.001)
 
+    async def test_the_log_is_brought_into_the_database_by_the_thread_that_syncs_it(self) -> None:
+        def sizes() -> tuple[int, int]:
+            return (self.folder / "a.db").stat().st_size, (self.folder / "a.db-wal").stat().st_size
+
+        before, each = sizes()[0], 60_000
+        for count in range(100):
+            self.store.stage("INSERT INTO contents VALUES (NULL, ?, NULL)", bytes([count]) * each)
+        self.assertTrue(self.store.flush())
+        await self.begun(1)
+        self.assertEqual((sizes()[0], sizes()[1] > 100 * each), (before, True))  # the loop only wrote to the log
+        self.goes_on.release()
+        self.assertTrue(await self.store.durable())
+        later = asyncio.create_task(self.store.asked(lambda base: base.execute("SELECT count(*) FROM held").fetchone()))
+        await self.store.calm()
+        self.assertGreater(sizes()[0], 100 * each)
+        self.assertEqual(await later, (0,))
+        self.goes_on.release()
+        self.assertTrue(await self.put(1))
+        self.assertLess(sizes()[1], each)  # it began anew
+        self.assertEqual(self.store.base.execute("SELECT count(*) FROM contents").fetchone(), (101,))
+
     async def test_nothing_is_told_before_a_thread_has_synced_it_and_others_go_on_meanwhile(self) -> None:
         first = self.put(1)
         await self.begun(1)

@@ -42,7 +42,7 @@ class Storm(StormCase):
             await self.rage(network, operator)
             self.assertTrue(await network.until(lambda it: not it.moving, PATIENCE), self.logs())
             await self.reads_live(network)
-            await self.settles(network)
+            await self.settles(network, operator)
         lines = await self.check(60)
         self.counts["went wrong"] = sum(self.log(name).count("went wrong on the disk") for name in NODES)
         self.counts["lines"] = lines
@@ -55,7 +55,7 @@ class Storm(StormCase):
         parts = [self.write(network), self.write(network), self.read(network), self.read(network), self.kill()]
         parts += [self.hand_over(operator), self.annoy(network), self.crowd(network), self.forge(network), self.watch()]
         parts += [
-            self.scrub(network),
+            self.scrub(operator),
             self.tear(),
             self.spoil(),
             *([self.fill()] if self.small else []),
@@ -75,14 +75,14 @@ class Storm(StormCase):
                 task.cancel()
             await asyncio.gather(*tasks, return_exceptions=True)
 
-    async def settles(self, network: Network) -> None:
+    async def settles(self, network: Network, operator: Network) -> None:
         """The nodes let go what clients took of them, and who lost a database, or had files spoilt that nobody reads,
         has what it must have again."""
         end = time.monotonic() + PATIENCE
         while time.monotonic() < end:
             await asyncio.sleep(1)
             with contextlib.suppress(ConnectionError):
-                await network.peers.told(LIAR, SCRUB)
+                await operator.peers.told(LIAR, SCRUB)
             usage = [usage_of(self.local.processes[name].pid) for name in NODES]
             live = [it for it in self.blobs if it in network.ledger.blobs and network.ledger.certificate(it)]
             held = self.record(LIAR).held

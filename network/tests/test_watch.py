@@ -40,7 +40,8 @@ class Challenges(unittest.IsolatedAsyncioTestCase):
             *((it, "ack", 0, NAME.hex()) for it in "abc"),
         ):
             self.assertTrue(self.ledger.apply(Entry(self.ledger.revision + 1, entry_key(poster, kind, *fields))))
-        network: Any = types.SimpleNamespace(ledger=self.ledger, walrus=None, authority=pathlib.Path("authority"))
+        files = {"authority": pathlib.Path("authority"), "files": ("", "")}
+        network: Any = types.SimpleNamespace(ledger=self.ledger, walrus=None, **files)
         self.enterContext(mock.patch.object(page, "Peers"))
         self.enterContext(mock.patch.object(page.Watch, "ask", self.ask))
         self.enterContext(mock.patch.object(page.Watch, "seat", lambda *_: types.SimpleNamespace(number=0)))
@@ -181,7 +182,7 @@ class Storing(unittest.IsolatedAsyncioTestCase):
         return {seats[0].number: said}
 
     async def put_all(self, is_over: Callable[[Ledger], bool] = lambda _: False) -> dict[int, str]:
-        return await Network.put_all(self.network, self.encoded, self.seats, is_over, asyncio.Event())
+        return await Network.put_all(self.network, self.encoded, self.seats, is_over, asyncio.Event(), set())
 
     async def test_what_each_said_is_told(self) -> None:
         storing = asyncio.create_task(self.put_all())

@@ -44,6 +44,7 @@ class Connection:
     whom: str = dataclasses.field(init=False)  # the address or network under which its turns are counted
     since: float = dataclasses.field(default_factory=time.monotonic)
     had_reply: bool = False
+    certificate: Any = None  # the client's, as `SSLSocket.getpeercert` has it; None without one
     kept: int = 0
     replies: "asyncio.Queue[Optional[Said]]" = dataclasses.field(default_factory=lambda: asyncio.Queue(AHEAD))
 

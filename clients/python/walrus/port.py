@@ -128,7 +128,7 @@ class Port:
             with contextlib.suppress(asyncio.CancelledError, OSError):  # disconnected, or its TLS handshake failed
                 await loop.connect_accepted_socket(lambda: wire, connection, **self.tls)
                 self.coming.pop(client, None)
-                client.since = time.monotonic()
+                client.since, client.certificate = time.monotonic(), wire.transport.get_extra_info("peercert")
                 self.make_room(client, self.connections)
                 wire.transport.set_write_buffer_limits(high=1, low=0)  # so that `drain` waits until all is sent
                 await self.converse(client, wire)

@@ -186,13 +186,14 @@ class Blobs(Mapping[bytes, Blob]):
         return self.posters()
 
     def over(self, count: int) -> list[bytes]:
-        """Returns up to `count` blobs that are over and still have a row."""
-        return self.names("until <= ? LIMIT ?", self.epoch, count)
+        """Returns up to `count` blobs that are over by their own time and still have a row."""
+        return self.names("until BETWEEN -? AND ? LIMIT ?", self.epoch, self.epoch, count)
 
     def is_over(self, identifier: bytes) -> bool:
-        """Whether a blob is over and still has a row."""
-        words, is_live = "SELECT 1 FROM blobs WHERE identifier = ?", identifier in self
-        return not is_live and bool(self.kept[identifier] and self.base.execute(words, (identifier,)).fetchone())
+        """Whether a blob is over by its own time and still has a row."""
+        words, is_live = "SELECT 1 FROM blobs WHERE identifier = ? AND until >= -?", identifier in self
+        found = not is_live and self.kept[identifier] and self.base.execute(words, (identifier, self.epoch)).fetchone()
+        return bool(found)
 
     def drop(self, identifiers: Iterable[bytes]) -> None:
         """Deletes the rows of those of these blobs that are over."""
@@ -218,6 +219,11 @@ class Blobs(Mapping[bytes, Blob]):
         """Returns the blobs kept beyond epoch `until` that were certified in epoch `certified` or before, in order."""
         return Owed(self, until, certified)
 
+    def behind(self, identifier: bytes, count: int) -> list[bytes]:
+        """Returns up to `count` certified live blobs that were first registered after this one, in that order."""
+        words = "number > (SELECT number FROM blobs WHERE identifier = ?) AND until > ? AND certified NOTNULL"
+        return self.names(f"{words} ORDER BY number LIMIT ?", identifier, self.epoch, count)
+
     def draw(self, drawn: random.Random) -> Optional[bytes]:
         """Returns a live blob at random, or None if there is none."""
         words = "identifier >= ? AND until > ? ORDER BY identifier LIMIT 1"
@@ -230,12 +236,13 @@ class Blobs(Mapping[bytes, Blob]):
         self.numbers.clear()
 
     def take(self, rows: Iterator[Row]) -> None:
-        """Replaces all blobs by these; blobs that were here and are not among them are over."""
+        """Replaces all blobs by these. Blobs that were here and are not among them are live no more, and keep the epoch
+        until which they were kept, negated: their parts are dropped when that comes, or by a scrub."""
         self.flush()
         self.forget()
         for name in DERIVED:
             self.base.execute(f"DROP {name}")
-        self.base.execute("UPDATE blobs SET until = -1")
+        self.base.execute("UPDATE blobs SET until = -abs(until)")
         self.base.executemany(PUT, map(without_past, rows))
         self.make()
         self.base.execute("DELETE FROM counts")

@@ -15,6 +15,8 @@ from cryptography.hazmat.primitives import hashes, serialization
 from cryptography.hazmat.primitives.asymmetric import ec
 from cryptography.x509.oid import ExtendedKeyUsageOID, NameOID
 
+from .entries import NAME
+
 AUTHORITY_DAYS, DAYS = 3_650.0, 825.0
 SOON, DAY = 30.0, 86_400.0  # days before a certificate expires in which a warning is given; seconds
 EARLIER = datetime.timedelta(hours=1)  # by which a certificate is valid before it was made, for clocks that are slow
@@ -123,6 +125,21 @@ async def watch(name: str, loaded: x509.Certificate) -> None:
             with contextlib.suppress(OSError):
                 print(text, file=sys.stderr, flush=True)
         await asyncio.sleep(DAY)
+
+
+def serving(authority: str, *own: str) -> ssl.SSLContext:
+    """Returns how a service with this certificate and key answers clients over TLS: they may show a certificate, which
+    the authority must then have signed."""
+    context = ssl.create_default_context(ssl.Purpose.CLIENT_AUTH, cafile=authority)
+    context.load_cert_chain(*own)
+    context.verify_mode = ssl.CERT_OPTIONAL
+    return context
+
+
+def peer_name(told: Any) -> str:
+    """Returns the name in the certificate of a peer, as `SSLSocket.getpeercert` has it; empty if it shows none."""
+    names: list[str] = [text for part in (told or {}).get("subject", ()) for kind, text in part if kind == "commonName"]
+    return names[0] if len(names) == 1 and NAME.fullmatch(names[0]) else ""
 
 
 def early(certificate: x509.Certificate) -> str:

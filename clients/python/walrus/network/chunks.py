@@ -180,7 +180,7 @@ class Writer:
             del blob
             share.shrink(sum(len(part) for parts in encoded.slivers for part in parts))
             identifier = encoded.identifier
-            return identifier, await self.store_encoded(encoded, until)
+            return identifier, (await self.network.ensure(encoded, until))[1]
         finally:
             if late := self.network.left(identifier):
                 task = asyncio.create_task(self.give_back(late, stack))
@@ -188,15 +188,6 @@ class Writer:
                 task.add_done_callback(self.giving.discard)
             else:
                 await stack.aclose()
-
-    async def store_encoded(self, encoded: client.Encoded, until: int) -> bool:
-        """Stores an encoded blob. Returns whether it was certified for as long before."""
-        network, ledger, identifier = self.network, self.network.ledger, encoded.identifier
-        found = ledger.blobs.get(identifier) if ledger.certificate(identifier) else None
-        if found and found.until >= until:
-            return True
-        await (network.register(identifier, until) if found else network.publish(encoded, until))
-        return False
 
     async def give_back(self, late: Sequence["asyncio.Task[Any]"], stack: contextlib.AsyncExitStack) -> None:
         """Gives memory back once no late node needs a blob, or others have waited for the memory."""

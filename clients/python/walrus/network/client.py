@@ -10,6 +10,7 @@ from .. import bundles, client
 
 from .follower import Recorders, Unreachable, View
 from .groups import all_of
+from .holders import Holders
 from .ledger import Ledger, entry_key
 from .peers import Peers, Seat
 from .program import Calls
@@ -63,7 +64,9 @@ class Network(View):
         super().__init__(recorders, State.open(access.state) if kept else State())
         self.user, self.walrus = access.user, Calls.of(access.program)
         self.authority, self.certificate = pathlib.Path(access.authority), pathlib.Path(access.certificate)
-        self.peers = Peers(self.ledger, self.authority, seconds)
+        self.files = access.certificate, access.key  # shown to nodes
+        self.peers = Peers(self.ledger, self.authority, seconds, self.files)
+        self.holders = Holders(self.peers, self.ledger)
         self.task: Optional["asyncio.Task[None]"] = None
         self.late, self.behind = set["asyncio.Task[dict[int, str]]"](), collections.Counter[str]()
         self.walrus.few = lambda: self.ledger.faults <= FEW
@@ -90,6 +93,7 @@ class Network(View):
         for late in self.late:
             late.cancel()
         await asyncio.gather(*self.late, return_exceptions=True)
+        await self.holders.close()
         await self.peers.close()
         await self.recorders.aclose()
         self.walrus.close()
@@ -119,28 +123,49 @@ class Network(View):
     async def store(self, blob: bytes, epochs: int = 1, form: int = 1) -> Stored:
         """Encodes and stores a blob for `epochs` epochs from the writing one on; returns once it is certified."""
         encoded = await self.walrus.encode(blob, self.ledger.faults, form)
-        return await self.publish(encoded, self.ledger.writing_epoch + epochs)
+        return (await self.ensure(encoded, self.ledger.writing_epoch + epochs))[0]
 
-    async def publish(self, encoded: client.Encoded, until: int) -> Stored:
+    async def ensure(self, encoded: client.Encoded, until: int) -> tuple[Stored, bool]:
+        """Has an encoded blob certified, held and kept until an epoch. Returns it, and whether it was certified for as
+        long before. If it is certified, its bytes are sent only if too few shards say that they hold it."""
+        ledger, identifier = self.ledger, encoded.identifier
+        found = ledger.blobs.get(identifier) if ledger.certificate(identifier) else None
+        if not found:
+            return await self.publish(encoded, until), False
+        if not await self.holders.have(identifier):
+            return await self.publish(encoded, until, again=True), found.until >= until
+        if found.until < until:
+            await self.register(identifier, until)
+        if not (certificate := ledger.certificate(identifier)):  # its time was over meanwhile
+            return await self.publish(encoded, until), False
+        return Stored(identifier, *certificate, ledger.blobs[identifier].until), found.until >= until
+
+    async def publish(self, encoded: client.Encoded, until: int, again: bool = False) -> Stored:
         """Registers an encoded blob, stores it at the shards of the writing committee, and returns once it is certified
-        and slower nodes had a short grace; transfers to them continue afterwards. Raises `client.Failed`."""
+        and slower nodes had a short grace; transfers to them continue afterwards. With `again` it is certified already,
+        and as many shards as a certificate needs must say that they have stored it now. Raises `client.Failed`."""
         identifier, said, begun = encoded.identifier, dict[int, str](), time.monotonic()
+        taken = set[int]()
         for attempt in range(3):
             epoch = self.ledger.writing_epoch
-            seats = self.peers.seats(self.ledger.writing, self.ledger.faults)
+            seats, taken = self.peers.seats(self.ledger.writing, self.ledger.faults), set[int]()
 
-            def is_over(ledger: Ledger, epoch: int = epoch) -> bool:
-                return bool(ledger.certificate(identifier)) or ledger.writing_epoch != epoch
+            def is_there(ledger: Ledger, taken: set[int] = taken) -> bool:
+                return bool(ledger.certificate(identifier)) and (not again or len(taken) >= ledger.quorum)
+
+            def is_over(ledger: Ledger, epoch: int = epoch, is_there: Callable[[Ledger], bool] = is_there) -> bool:
+                return is_there(ledger) or ledger.writing_epoch != epoch
 
             done = asyncio.Event()
-            storing = self.put_all(encoded, seats, is_over, done)
+            storing = self.put_all(encoded, seats, is_over, done, taken)
             _, words = await all_of([self.registered(identifier, until, done), storing])
             said = {number: text for number, text in (words or {}).items() if text}
             pause = 2**attempt / 2 if len(seats) - len(said) < self.ledger.quorum else 10
             await self.until(is_over, pause)
-            if found := self.ledger.certificate(identifier):
+            if is_there(self.ledger) and (found := self.ledger.certificate(identifier)):
                 return Stored(identifier, *found, self.ledger.blobs[identifier].until)
-        raise self.failed(f"{identifier.hex()} is not certified", said, begun)
+        lost = f"certified, but only {len(taken)} shards have its bytes"
+        raise self.failed(f"{identifier.hex()} is {lost if again else 'not certified'}", said, begun)
 
     async def registered(self, identifier: bytes, until: int, done: asyncio.Event) -> None:
         """Registers a blob unless it is registered until then already; sets `done` at the end."""
@@ -155,17 +180,26 @@ class Network(View):
         seats: Sequence[Seat],
         is_over: Callable[[Ledger], bool],
         registered: asyncio.Event,
+        taken: set[int],
     ) -> dict[int, str]:
         """Stores a blob at these shards until all have answered, or until `is_over` and nodes that are not behind had
-        as much time again. Returns by shard why it is not stored, or an empty text. Slower transfers continue alone."""
+        as much time again. Returns by shard why it is not stored, or an empty text. Slower transfers continue alone.
+        The numbers of the shards that stored it are added to `taken`."""
         tasks, said, begun = dict[str, "asyncio.Task[dict[int, str]]"](), dict[int, str](), time.monotonic()
         size = sum(map(len, (encoded.metadata, *encoded.slivers[0])))
+
+        def note(task: "asyncio.Task[dict[int, str]]") -> None:
+            if not task.cancelled() and not task.exception():
+                taken.update(number for number, text in task.result().items() if not text)
+                self.waiting.tell()
+
         for name in dict.fromkeys(seat.name for seat in seats):
             own = [seat for seat in seats if seat.name == name]
             if self.behind[name] and self.behind[name] + size > BEHIND:
                 said |= {seat.number: "it is behind with what was stored before" for seat in own}
             else:
                 tasks[name] = asyncio.create_task(self.put_at(own, encoded, registered), name=encoded.identifier.hex())
+                tasks[name].add_done_callback(note)
         over = asyncio.create_task(self.until(is_over, None))
         ends: list["asyncio.Future[Any]"] = [over, asyncio.gather(*tasks.values(), return_exceptions=True)]
         try:

@@ -9,7 +9,7 @@ from typing import Any, Awaitable, Callable, Optional
 import aiohttp
 from .. import client, loop
 
-from . import operators, tokens
+from . import operators, progress, tokens
 from .dates import epochs_for
 from .fetching import fetch_any
 from .follower import Refused, Unreachable
@@ -73,6 +73,7 @@ def tell_status(told: dict[str, Any]) -> str:
     for it in told["nodes"]:
         words = [f"{at} {' '.join(map(str, it[at]))}" for at in ("shards", "next") if it[at]] + [it["state"]]
         words += tell_figures(it.get("figures", {}))
+        words += [clean(progress.in_words(it["waits"]))] if it.get("waits") else []
         lines.append(f"{it['name']}: {', '.join(words)}" + (f" ({it['said']})" if it["said"] else ""))
     if why := told.get("storing", {}).get("why"):
         lines.append(f"nothing can be stored now: {why}")

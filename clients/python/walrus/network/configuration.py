@@ -16,6 +16,7 @@ WORDS = {str: "a text", File: "a text", int: "a whole number", float: "a number"
 # The least values of numbers by their names; 0 for all others. With less a service would ask without a pause (probe),
 # take the ledger for away between two lines of a recorder, which come each second (stale), or wait for ever.
 LEAST = {"scrub_rate": 1, "connections": 1, "uploads": 1, "turns": 1, "epochs": 1, "probe": 0.1, "stale": 2}
+ANYONE, MEMBERS = "anyone", "members"  # who may read at a node: members show a certificate of the network
 
 
 class Wrong(ValueError):
@@ -78,6 +79,8 @@ def faults_of_values(values: Mapping[str, Any]) -> list[str]:
         faults.append(f"database must not end with {suffix}: the node keeps its {suffix[1:]} beside it under that name")
     if values.get("reserve", 0) > 1:
         faults.append(f"reserve is a fraction of the disk, at most 1, and not {values['reserve']}")
+    if values.get("reads", ANYONE) not in (ANYONE, MEMBERS):
+        faults.append(f"reads is {ANYONE} or {MEMBERS}, and not {values['reads']}")
     bad = [it for it in values.get("proxies", []) if not is_address(it)]
     return faults + [f"proxies are addresses, such as 10.0.0.1 or fd00::1, and not {it}" for it in bad]
 

@@ -17,7 +17,7 @@ from aiohttp import http_exceptions, streams, web
 from ..fairness import key_of
 from ..port import HANDSHAKE, MANY
 from ..wire import accept, bound
-from .entries import NAME
+from .certificates import peer_name
 
 FIRST, EACH = 30.0, 300  # seconds for a request's head, since the last reply; the most connections of one address
 MALFORMED = b"HTTP/1.1 400 Bad Request\r\nContent-Length: 0\r\nConnection: close\r\n\r\n"
@@ -139,9 +139,7 @@ class Named(Connection):
         self.bound = bound
 
     def whom(self, transport: asyncio.BaseTransport) -> tuple[str, float]:
-        subject = (transport.get_extra_info("peercert") or {}).get("subject", ())
-        names: list[str] = [text for part in subject for kind, text in part if kind == "commonName"]
-        name = names[0] if len(names) == 1 and NAME.fullmatch(names[0]) else ""
+        name = peer_name(transport.get_extra_info("peercert"))
         return name, self.bound(name)
 
 

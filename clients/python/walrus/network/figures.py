@@ -15,7 +15,11 @@ from ..frames import answer
 from ..port import Bounds, Connection, Port, Said
 
 from . import certificates, whole
-from .peers import FIGURES, SCRUB
+from .configuration import MEMBERS
+from .entries import OPERATOR
+from .holding import held
+from .peers import FIGURES, HELD, SCRUB
+from .shard import DECLINED
 from .times import Times
 
 if TYPE_CHECKING:
@@ -32,7 +36,9 @@ NAMES = {  # of requests, as labels of metrics
     client.ATTEST: "attest",
     client.FORGET: "forget",
     whole.WHOLE: "store",
+    HELD[0]: "held",
 }
+READS = client.READ, client.SYMBOL  # requests whose replies have contents of blobs
 FRESH, MOMENT = 10.0, 1.0  # seconds until what is held is counted again; to wait for a count at most
 
 
@@ -54,15 +60,36 @@ class NodePort(Port):
         return said
 
     async def answer_one(self, client: Connection, sender: int, payload: Optional[Data]) -> Said:
+        if not self.may_ask(client, payload):
+            return Said(parts([answer(DECLINED)], sender))
         if payload and payload[0] == whole.WHOLE:
             client.had_reply = True
             return await self.node.reply(sender, payload)
+        if payload and payload[0] == HELD[0]:
+            return Said(parts(await self.told_held(bytes(payload)), sender))
         if payload not in (FIGURES, SCRUB):
             return await super().answer(client, sender, payload)
         if payload == SCRUB:
             self.node.scrub.now.set()
         client.had_reply = True
         return Said(parts([FIGURES + json.dumps(self.figures()).encode(), answer(0, 1)], sender))
+
+    async def told_held(self, request: bytes) -> list[bytes]:
+        """Return the reply to the question which blobs the node holds."""
+        try:
+            return [await held(self.node, request), answer(0, 1)]
+        except (OSError, sqlite3.OperationalError) as fault:  # from the system: whoever asks takes it for a no
+            self.tell(f"{self.node.name}: what is held is not looked up: {fault}", "failed")
+            return [answer(DECLINED)]
+
+    def may_ask(self, asking: Connection, payload: Optional[Data]) -> bool:
+        """Return whether a client may ask this, by the name in its certificate. Orders are the operator's alone, and
+        where `reads` says so, only members of the network may read."""
+        kind, name = payload[0] if payload else 0, certificates.peer_name(asking.certificate)
+        if kind == SCRUB[0]:
+            return name == OPERATOR
+        is_for_members = kind == HELD[0] or kind in READS and self.node.settings.reads == MEMBERS
+        return bool(name) or not is_for_members
 
     async def expect(self, request: Optional[Data]) -> None:
         if request and request[0] == whole.WHOLE:
@@ -106,6 +133,7 @@ class NodePort(Port):
             "memory": {"bytes": room.size, "taken": room.size - room.free},
             "judged": node.judges.count,
             "recovered": dataclasses.asdict(node.progress),
+            "waits": node.waits,
             "scrub": dataclasses.asdict(node.scrub.figures),
         }
 

@@ -50,6 +50,7 @@ STORING = (
 )
 TAKEN = dict.fromkeys([*STORING, ("PUT", "/v1/folders")], ["epochs", "for"])  # query parameters by method and path
 TAKEN |= {("GET", "/v1/blobs"): ["within", "after"], ("PUT", "/v1/blobs"): ["epochs", "for", "filename"]}
+TAKEN |= {("GET", "/v1/status/{name}"): ["held"]}
 RESTING = (
     "/v1/blobs",
     "/v1/bundles",
@@ -181,7 +182,12 @@ class Gateway(Server):
         return await send_text(request, self.watch.status_text(), FRESH | JSON)
 
     async def status_of(self, request: web.Request) -> web.Response:
-        return as_json(self.watch.with_shards(named(request)))
+        """Tells what is known of a blob; with `held` in the query also whether enough nodes say that they hold it."""
+        name = named(request)
+        told = self.watch.with_shards(name)
+        if "held" in request.query:
+            told["held"] = bool(told["certificate"]) and await self.network.holders.have(name)
+        return as_json(told)
 
     async def challenge(self, request: web.Request) -> web.Response:
         """Challenges a node to show that it holds its part of a blob; the response has the finding."""

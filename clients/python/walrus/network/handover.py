@@ -9,6 +9,7 @@ from .. import client
 from .blobs import Owed
 from .follower import Refused
 from .ledger import ACK, ADDRESS, ATTEST, PAST, entry_key
+from .progress import MISSING, Progress, in_words
 from .recovery import MANY, Lack, attest, by_lanes, passing, settle
 
 if TYPE_CHECKING:
@@ -161,9 +162,11 @@ async def move(node: "Node") -> None:
         begun = clock()
         own, revision = set(node.sides.get(epoch, ())), ledger.revision  # empty until `begin` is on the disk
         async with passing(node.name, f"epoch {epoch}"):
-            left = 0 if own <= ledger.ready else await settle(node, epoch, ledger.must_hold())
+            progress = Progress(epoch)
+            left = 0 if own <= ledger.ready else await settle(node, epoch, ledger.must_hold(), progress)
+            node.waits = {"epoch": epoch, "blobs": left, "first": progress.first} if left else {}
             if left and left != said:
-                print(f"{node.name}: epoch {epoch}: {left} blobs are still missing", file=sys.stderr, flush=True)
+                print(f"{node.name}: epoch {epoch} {in_words(node.waits)}; {MISSING}", file=sys.stderr, flush=True)
             said = left
             if own and not left and not own <= ledger.ready:
                 await node.recorders.post(entry_key(node.name, "ready", epoch))
@@ -173,3 +176,4 @@ async def move(node: "Node") -> None:
             await asyncio.sleep(min(LATEST, 2 * (clock() - begun)))
         await node.until(lambda it: it.revision != revision, pause)
         pause = min(2 * pause, 5.0)
+    node.waits = {}

@@ -8,7 +8,7 @@ import collections
 import copy
 import dataclasses
 import functools
-from typing import Collection, Optional
+from typing import Collection, Iterable, Optional
 
 from .blobs import Blob, Blobs, Over, Owed, shards_in
 from .entries import ACK, ADDRESS, ATTEST, LAST_EPOCH, LAST_UNTIL, OPERATOR, PAST, REGISTER, Entry, entry_key
@@ -107,6 +107,10 @@ class Ledger:
         blob = self.blobs.get(identifier)
         moved = self.moving and blob and blob.votes[ACK].get(self.writing_epoch, 0).bit_count() >= self.quorum
         return self.epoch + bool(moved)
+
+    def homes(self, identifiers: Iterable[bytes]) -> dict[bytes, int]:
+        """Returns the home epoch of each blob; none is looked up unless the committee changes."""
+        return {it: self.home_epoch(it) if self.moving else self.epoch for it in identifiers}
 
     def must_hold(self) -> Collection[bytes] | Owed:
         """Returns the blobs for which each shard of the next committee must be settled: those that were certified

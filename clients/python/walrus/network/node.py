@@ -5,7 +5,6 @@ import functools
 import pathlib
 import signal
 import sqlite3
-import ssl
 import sys
 from asyncio import sslproto
 from typing import Any, Coroutine, Optional
@@ -25,7 +24,8 @@ from .entries import LAST_EPOCH
 from .ledger import ACK, ATTEST, REGISTER, Entry, entry_key
 from .notify import lose_lines, ready
 from .peers import Peers
-from .recovery import Progress, passing, settle
+from .progress import Progress
+from .recovery import passing, settle
 from .scrub import AT_ONCE, Scrub
 from .settings import Settings
 from .shard import DECLINED, FULL, NO_MEMORY, Past, Shard
@@ -47,19 +47,20 @@ class Node(View):
 
     def __init__(self, settings: Settings):
         self.settings, self.name, authority = settings, settings.name, pathlib.Path(settings.authority)
+        own = settings.certificate, settings.key
         spare = max(0, settings.memory - settings.kept - BARE)  # `Judges` next: its `mallopt` must precede any thread
         self.judges, self.repairs = Judges(settings.program, 2 * spare // 3), Room(spare // 3)
         self.store = Store(pathlib.Path(settings.database), settings.recorded, self.fail)
-        recorders = Recorders(settings.recorders, settings.authority, settings.certificate, settings.key)
+        recorders = Recorders(settings.recorders, settings.authority, *own)
         path = self.store.path.with_suffix(".ledger")
         super().__init__(recorders, State.open(str(path), LAST_EPOCH if settings.recorded else TAIL, PAGES))
         self.certificate = certificates.read(pathlib.Path(settings.certificate))
-        self.peers, self.sides = Peers(self.ledger, authority, 20), dict[int, dict[int, Shard]]()
+        self.peers, self.sides = Peers(self.ledger, authority, 20, own), dict[int, dict[int, Shard]]()
         self.failed: "asyncio.Future[None]" = asyncio.get_running_loop().create_future()
         self.port = NodePort(self, Bounds(settings.connections, REQUEST, IDLE, settings.kept))
         self.scrub, self.intake, self.progress = Scrub(self), Intake(self), Progress()
-        self.tasks: list["asyncio.Task[None]"] = []
-        self.numbers: Any = None  # the server that Prometheus reads
+        self.waits = dict[str, Any]()  # the blobs without which a handover does not go on here
+        self.tasks, self.numbers = list["asyncio.Task[None]"](), None  # type: Any, Any
         self.turned: object = None  # the epoch and committees that `turn` last set up
         self.wrong: "asyncio.Queue[bytes]" = asyncio.Queue()  # blobs of which a part was found wrong on the disk
         self.unattested = set[bytes]()  # blobs with a proof here, not attested yet as the ledger was away
@@ -67,24 +68,24 @@ class Node(View):
     async def open(self) -> int:
         """Set up the shards from the disk, follow the ledger, and listen; return the port. If it takes more than 5 s to
         catch up with the ledger, the node serves what is on its disk meanwhile."""
+        settings = self.settings
         await self.turn()
         self.tasks.append(asyncio.create_task(self.watched(self.follow())))
         if not await self.until(lambda _: self.caught_up or self.failed.done(), 5):
             reads = self.silence() <= AWAY or self.state.entering or self.recorders.pieces  # a checkpoint takes long
             why = "is still being read" if reads else "is away"
             print(f"{self.name}: the ledger {why}; this serves what is on the disk", file=sys.stderr, flush=True)
-        context = ssl.create_default_context(ssl.Purpose.CLIENT_AUTH)
-        context.load_cert_chain(self.settings.certificate, self.settings.key)
-        port = await self.port.listen(self.settings.host, self.settings.port, context)
-        told = handover.tell_address(self, *self.settings.reached(port)), handover.tell_past(self)
+        context = certificates.serving(settings.authority, settings.certificate, settings.key)
+        port = await self.port.listen(settings.host, settings.port, context)
+        told = handover.tell_address(self, *settings.reached(port)), handover.tell_past(self)
         owed = handover.hand_over(self), handover.heal(self), self.mend()
         watching = certificates.watch(self.name, self.certificate)
         for work in (*owed, watching, self.scrub.run(), self.scrub.sweep_always(), *told):
             self.tasks.append(asyncio.create_task(self.watched(work)))
-        if self.settings.metrics:
+        if settings.metrics:
             from . import metrics  # here, so that only nodes that need it load it
 
-            self.numbers = await metrics.serve(self.settings.metrics, self.port.numbers)
+            self.numbers = await metrics.serve(settings.metrics, self.port.numbers)
         return port
 
     async def watched(self, work: Coroutine[Any, Any, object]) -> None:

@@ -2,6 +2,7 @@
 disks."""
 import argparse
 import collections
+import contextlib
 import datetime
 import json
 import re
@@ -16,7 +17,8 @@ from .dates import seconds_of
 from .entries import NAME, OPERATOR, entry_key
 from .groups import all_of
 from .ledger import Ledger
-from .peers import SCRUB, Seat
+from .peers import FIGURES, SCRUB, Seat
+from .progress import MISSING, in_words, waits_of
 from .transfers import Failure
 
 SHORT = 60  # minutes of an epoch below which a plan may be a slip, such as 1m for a month
@@ -125,7 +127,7 @@ async def hand_over(words: argparse.Namespace) -> int:
         begun = time.monotonic()
         await network.begin(ledger.faults, owners, epoch)  # not a later one, if another command began this
         if not await network.until(lambda it: it.epoch >= epoch, words.seconds):
-            cause = network.away_since(begun) or "look at its nodes' logs"
+            cause = network.away_since(begun) or await waits_for(network) or "look at its nodes' logs"
             text = f"epoch {epoch} has not begun after {words.seconds:g} s: {cause}. The handover goes on; "
             later = f"wait for it with --epoch {epoch}, as this command would later begin epoch {epoch + 1}"
             raise Failure(text + (later if words.epoch is None else "wait for it with the same command"), 1)
@@ -133,6 +135,21 @@ async def hand_over(words: argparse.Namespace) -> int:
         text = f"epoch {epoch} has begun" + (SNAPSHOT if leave else "")
         print(json.dumps(told) if words.json else text)
     return 0
+
+
+async def waits_for(network: Network) -> str:
+    """Returns for which blobs the handover under way waits, by the nodes that are not ready; empty if none says so."""
+    ledger = network.ledger
+    names = dict.fromkeys(name for shard, name in enumerate(ledger.next) if shard not in ledger.ready)
+
+    async def told(name: str) -> str:
+        with contextlib.suppress(ConnectionError):
+            if (waits := waits_of(await network.peers.told(name, FIGURES))) and waits["epoch"] == ledger.writing_epoch:
+                return f"{name} {in_words(waits)}"
+        return ""
+
+    said = [it for it in await all_of(map(told, names)) if it]
+    return f"{'; '.join(said)}; {MISSING}" if said else ""
 
 
 def has_begun(ledger: Ledger, epoch: int, named: list[str], as_json: bool) -> int:

@@ -22,6 +22,7 @@ from .ledger import ACK, ATTEST
 from .peers import FIGURES, Peers, Seat
 from .pieces import LEAST, Memory
 from .problems import NO_BLOB, Problem, as_line
+from .progress import Waits, is_figure, waits_of
 from .sorting import Sorter
 from .times import Times
 from .turns import ASKING, Turns
@@ -36,7 +37,7 @@ FIGURE_NAMES = {  # what the status has of a node's figures, by group
     "disk": ("bytes", "used", "free", "reserve"),
     "memory": ("bytes", "taken"),
     "recovered": ("epoch", "of", "of_bytes", "blobs", "bytes"),
-    "scrub": ("running", "begun", "ended", "blobs", "bytes", "wrong", "swept"),
+    "scrub": ("running", "begun", "ended", "blobs", "bytes", "wrong", "swept", "unnamed"),
 }
 DRAWN = random.SystemRandom()
 
@@ -51,10 +52,6 @@ def need_of(faults: int) -> int:
     """Returns the memory that a challenge takes, for the symbols or else for a proof of bad encoding."""
     shape = client.Shape(faults)
     return LEAST + TIMES * max(DRAWS * shape.widest, shape.longest)
-
-
-def is_figure(value: Any) -> bool:
-    return isinstance(value, (int, float)) and 0 <= value < 2**63
 
 
 def numbers(told: dict[str, Any]) -> Figures:
@@ -74,8 +71,9 @@ class Watch:
         self.network, self.options, self.sorter = network, options, sorter
         self.memory, self.turns = memory, Turns(CHALLENGES)
         # Its own, so that no check waits behind a long transfer.
-        self.peers = Peers(network.ledger, network.authority, 10)
+        self.peers = Peers(network.ledger, network.authority, 10, network.files)
         self.faults, self.figures = dict[str, str](), dict[str, Figures]()
+        self.waits = dict[str, Waits]()  # what a handover waits for at a node
         self.findings: "collections.deque[Finding]" = collections.deque(maxlen=FINDINGS)
         self.held: "collections.Counter[str]" = collections.Counter()
         self.announced: Iterable[dict[str, Any]] = ()  # findings of the `Announcer`: badly encoded blobs and outcomes
@@ -139,7 +137,8 @@ class Watch:
         try:
             if seat:
                 await seat.ask(Asked.of(client.write_frame(client.Read(bytes(32))), 0, 0))
-                self.figures[name] = told = numbers(await self.peers.told(name, FIGURES))
+                said = await self.peers.told(name, FIGURES)
+                self.figures[name], self.waits[name] = (told := numbers(said)), waits_of(said)
                 if "place" in told.get("ledger", {}):
                     told["ledger"]["behind"] = max(0, self.place() - told["ledger"]["place"])
             self.faults[name] = ""
@@ -244,7 +243,9 @@ class Watch:
         now, later = ([at for at, it in enumerate(owners) if it == name] for owners in (ledger.now, ledger.next))
         state = "unknown" if fault is None else "silent" if fault else "answers"
         told = {"name": name, "shards": now, "next": later, "ready": bool(later) and set(later) <= ledger.ready}
-        return told | {"state": state, "said": fault or "", "figures": self.figures.get(name, {})}
+        told |= {"state": state, "said": fault or "", "figures": self.figures.get(name, {})}
+        waits = self.waits.get(name) if ledger.moving and not told["ready"] else None
+        return told | {"waits": waits if waits and waits["epoch"] == ledger.writing_epoch else None}
 
     def status_text(self) -> bytes:
         """Returns the status as a line of JSON. It is made at most twice a second, however many clients ask."""

@@ -14,7 +14,7 @@ from typing import Any, Optional, Sequence
 from .. import client
 from ..shards import Heard
 from ..wire import Wire, connect
-from .ledger import Ledger
+from .ledger import OPERATOR, Ledger
 from .limits import read_address
 
 LOOKUPS = 32  # names that are resolved at once, at most one of each node
@@ -22,7 +22,10 @@ FIRST = 2.0  # seconds for a node's address to accept a connection before the ne
 LANES, LARGE = 8, 4_194_304  # exchanges with a shard at once; bytes from which on a request is large
 SMALL, TOGETHER, MANY = 32_768, 262_144, 64  # a small request has at most SMALL bytes; limits of those sent together
 Storing = dict["asyncio.Future[str]", list[client.Data]]  # requests to store blobs, by the future of the result
-FIGURES, SCRUB = b"\x60", b"\x61"  # an operator's requests for a node's figures: alone, or with a scrub begun
+FIGURES, SCRUB = b"\x60", b"\x61"  # requests for a node's figures: alone, or, from the operator, with a scrub begun
+HELD, ASKED = b"\x63", 1_000  # the question which blobs a node holds, before their identifiers; the most of these
+LACKS, HOLDS, UNSEEN = range(3)  # what it answers for each, behind the same byte; `UNSEEN`: it had not the time
+DECLINES = b"\x30"  # the kind of an answer, which comes first if the request is declined
 
 
 class Seat(client.Shard):
@@ -169,9 +172,12 @@ class Seat(client.Shard):
 class Peers:
     """The nodes of a network, by name."""
 
-    def __init__(self, ledger: Ledger, authority: pathlib.Path, seconds: float):
+    def __init__(self, ledger: Ledger, authority: pathlib.Path, seconds: float, own: Optional[tuple[str, str]] = None):
+        """`own` names the files of the certificate and key that are shown to nodes."""
         self.ledger, self.seconds = ledger, seconds
         self.context = ssl.create_default_context(cafile=str(authority))
+        if own:
+            self.context.load_cert_chain(*own)
         self.kept = dict[tuple[str, int], Seat]()
         self.pool = concurrent.futures.ThreadPoolExecutor(LOOKUPS, "names")  # apart from asyncio's, which serves all
         self.taken = dict[str, str]()  # each node's address that accepted the last connection
@@ -228,16 +234,26 @@ class Peers:
 
     async def told(self, name: str, request: bytes) -> dict[str, Any]:
         """Return the figures that a node sends; raises `ConnectionError` if it does not."""
+        payload = await self.answered(name, request, self.seconds)
         try:
-            async with asyncio.timeout(self.seconds):
+            if payload[:1] == DECLINES:
+                raise ValueError(f"it takes this order from the {OPERATOR} alone")
+            if not isinstance(told := json.loads(payload[1:]), dict):
+                raise ValueError("its reply has no figures")
+            return told
+        except (ValueError, RecursionError) as fault:
+            raise ConnectionError(str(fault)) from None
+
+    async def answered(self, name: str, request: bytes, seconds: float) -> bytes:
+        """Return the first payload that a node answers to a request, over a connection of its own; raises
+        `ConnectionError` if there is none within these seconds."""
+        try:
+            async with asyncio.timeout(seconds):
                 with contextlib.closing(await self.connect(name)) as wire:
                     wire.write(client.envelope(request))
-                    _, payload = await client.take_envelope(wire, 65_535)
-                    if not isinstance(told := json.loads(payload[1:]), dict):
-                        raise ValueError("its reply has no figures")
-                    return told
-        except (OSError, EOFError, ValueError, RecursionError) as fault:
-            raise ConnectionError(client.fault_in_words(fault, self.seconds)) from None
+                    return bytes((await client.take_envelope(wire, 65_535))[1])
+        except (OSError, EOFError, ValueError) as fault:
+            raise ConnectionError(client.fault_in_words(fault, seconds)) from None
 
     async def close(self) -> None:
         await asyncio.gather(*(seat.close() for seat in self.kept.values()))

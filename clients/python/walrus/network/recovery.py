@@ -1,7 +1,6 @@
 """How a node recovers its shards' blobs from other nodes: many blobs at once, from no more nodes than needed."""
 import asyncio
 import contextlib
-import dataclasses
 import functools
 import itertools
 import sqlite3
@@ -18,6 +17,7 @@ from .groups import several
 from .judge import Busy, Clash, name_of
 from .ledger import ACK, ATTEST
 from .peers import Seat
+from .progress import NAMED, Progress
 from .shard import LAST, SMALL, Shard, pages
 
 if TYPE_CHECKING:
@@ -28,18 +28,6 @@ LANES, SEATS = 8, 256  # blobs recovered at once, if memory allows; connections 
 PAGE = 1_000  # blobs that are looked at before other tasks get a turn
 MANY = 100_000  # missing blobs that are listed in memory at once, however many there are
 Lack = NamedTuple("Lack", [("shard", Shard), ("identifier", bytes)])  # a blob that a shard lacks
-
-
-@dataclasses.dataclass
-class Progress:
-    """Progress of a recovery: `blobs` of the `of` that shards lack, and bytes of their slivers, of the `of_bytes` that
-    are measured so far."""
-
-    epoch: int = 0
-    of: int = 0
-    of_bytes: int = 0
-    blobs: int = 0
-    bytes: int = 0
 
 
 class Once(client.Shard):
@@ -115,13 +103,14 @@ async def by_lanes(node: "Node", lacks: Iterable[Lack], step: Callable[[Lack], A
     await several(map(take, lacks), max(1, min(LANES, SEATS // node.port.shape.shards)))
 
 
-async def settle(node: "Node", epoch: int, owed: Collection[bytes] | Owed) -> int:
+async def settle(node: "Node", epoch: int, owed: Collection[bytes] | Owed, progress: Optional[Progress] = None) -> int:
     """Recover what the node's shards of an epoch lack of the blobs owed, about MANY at a time in the order of their
     names. All that is missing is counted first. Return how many are still missing."""
-    losses, left, progress = node.store.losses, 0, Progress(epoch)
+    losses, left, progress = node.store.losses, 0, progress or Progress(epoch)
     async for lacks in lacking(node, epoch, owed):
         if not lacks[0].shard.free_pages(LAST):  # it could not be kept, so the rest is not looked at
             tell_full(node)
+            progress.name(lacks[:NAMED])
             return len(lacks)
         progress.of += len(lacks)
     async for lacks in lacking(node, epoch, owed if progress.of else ()):
@@ -193,7 +182,9 @@ async def recover_all(node: "Node", work: list[Lack], progress: Progress) -> int
         await by_lanes(node, late[waits:], functools.partial(recover, fill))
     left = 0
     for place in range(0, len(work), PAGE):
-        left += sum(not shard.settled(it) for shard, it in work[place : place + PAGE])  # noqa: E203
+        missing = [it for it in work[place : place + PAGE] if not it.shard.settled(it.identifier)]  # noqa: E203
+        left += len(missing)
+        progress.name(missing[:NAMED])
         await asyncio.sleep(0)
     return left  # including what the disk lost meanwhile
 

@@ -1,6 +1,6 @@
 """Scrubs: everything that a node holds is read and judged once every `scrub` days, at a bounded rate. What is wrong is
-recovered from the others, and what nothing names, or what has expired, is removed. The position of a scrub is on the
-disk, and a restart continues from there."""
+recovered from the others, what has expired is removed, and what nothing names is first kept aside for a while. The
+position of a scrub is on the disk, and a restart continues from there."""
 import asyncio
 import contextlib
 import dataclasses
@@ -13,7 +13,8 @@ import time
 from typing import TYPE_CHECKING
 
 from .recovery import passing
-from .store import LAST
+from .shard import Shard
+from .store import LAST, MARK
 
 if TYPE_CHECKING:
     from .node import Node
@@ -24,8 +25,6 @@ LEAST = 65_536  # bytes that the rate counts for a blob at least, as anybody may
 NAMED = "SELECT file FROM contents WHERE file BETWEEN ? AND ? || '~'"
 OF_FILE = """SELECT holding, identifier, part FROM held WHERE holding IN (SELECT holding FROM holdings)
     AND identifier = ? AND NOT wrong AND content = (SELECT content FROM contents WHERE file = ?)"""
-MARK = """UPDATE held SET wrong = 1 WHERE holding = ? AND identifier = ? AND part = ?
-    AND content = (SELECT content FROM contents WHERE file = ?)"""
 TRIES = 30  # checks of a blob that may fail, such as for lack of memory or a descriptor, before it is skipped
 
 
@@ -42,6 +41,7 @@ class Figures:
     bytes: int = 0
     wrong: int = 0
     swept: int = 0
+    unnamed: int = 0  # blobs that no entry of the ledger names, kept for `grace` seconds
 
 
 class Scrub:
@@ -93,13 +93,13 @@ class Scrub:
             if not shards:
                 place = holding, LAST  # of a shard that is no longer here: `sweep` deletes it
             elif self.node.caught_up and identifier not in self.node.ledger.blobs:
-                store.expire([identifier])  # it expired, and the ledger's row was lost before this was dropped
-                await store.durable()
+                await self.let_go(holding, identifier, shards[0])
             elif self.tries == TRIES:
                 told = f"the scrub passes over {identifier.hex()}, whose check failed {TRIES} times"
                 print(f"{self.node.name}: {told}", file=sys.stderr, flush=True)
             else:
                 self.tries += 1
+                store.unnamed(holding, identifier, False)
                 size, fine = await max(shards, key=lambda it: it.epoch).check(identifier)
                 figures.blobs, figures.bytes = figures.blobs + 1, figures.bytes + size
                 figures.wrong += not fine
@@ -111,7 +111,19 @@ class Scrub:
         figures.running, figures.ended, figures.holding, figures.after = False, time.time(), 0, ""
         self.note()
         told = f"read {figures.blobs} blobs with {figures.bytes} bytes, of which {figures.wrong} had something wrong"
-        print(f"{self.node.name}: a scrub {told}, and swept {figures.swept} files", file=sys.stderr, flush=True)
+        print(f"{self.node.name}: a scrub {told}, and put {figures.swept} files aside", file=sys.stderr, flush=True)
+
+    async def let_go(self, holding: int, identifier: bytes, shard: Shard) -> None:
+        """Drop a blob that no entry of the ledger has named for `grace` seconds, or earlier if the disk has no room. It
+        expired, and the ledger's row was lost before it was dropped; or what was heard of the ledger is false, and the
+        blob is named again later: until then its rows and files stay as they are, and nothing else is done with it."""
+        store = self.node.store
+        since, full = store.unnamed(holding, identifier, True), not shard.free_pages()
+        if full or time.time() >= since + self.node.settings.grace:
+            store.expire([identifier])
+        else:
+            self.figures.unnamed += 1
+        await store.durable()
 
     async def sweep_always(self) -> None:
         """Sweep and drop expired blobs at the start, and whenever there may be something to drop."""
@@ -137,16 +149,17 @@ class Scrub:
             blobs.drop(over)
 
     def compare(self, digits: str, base: sqlite3.Connection) -> tuple[int, list[tuple[int, bytes, int, str]]]:
-        """Remove the files for two digits that nothing names; return how many they were, and the sound parts whose file
-        is missing. Names are read before the files and rows behind them: a file is there for as long as its row is."""
+        """Put the files for two digits aside that nothing names; return how many they were, and the sound parts whose
+        file is missing. Names are read before the files and rows behind them: a file is there as long as its row is."""
         named = {name for name, in base.execute(NAMED, (digits, digits))}
         swept, lost = self.node.store.files.sweep(digits, named)
         found = ((it, row) for it in lost for row in base.execute(OF_FILE, (bytes.fromhex(it[:64]), it)))
         return swept, [(holding, identifier, part, it) for it, (holding, identifier, part) in found]
 
     async def sweep(self) -> None:
-        """Remove files that nothing names, as a crash may leave them, and parts of shards that are no longer here. Mark
-        parts whose file is missing, so that they are lacking."""
+        """Put files aside that nothing names, as a crash may leave them, and delete those that have been aside for
+        `grace` seconds, or all if the disk has no room. Drop parts of shards that are no longer here. Mark parts whose
+        file is missing, so that they are lacking."""
         store, lost = self.node.store, 0
         for number in range(256):
             swept, rows = await store.asked(functools.partial(self.compare, f"{number:02x}"))
@@ -156,6 +169,9 @@ class Scrub:
                 if place % AT_ONCE == 0 or place == len(rows):
                     if not await store.durable():
                         raise OSError(f"the disk does not take marks of {len(rows)} missing files")
+        disk, settings = store.disk(self.node.settings.reserve), self.node.settings
+        grace = settings.grace if disk.free > settings.reserve * disk.total else 0.0
+        await store.asked(lambda _: store.files.clear(grace))
         self.compared.set()
         if lost:
             told = f"{lost} files are missing in {store.files.folder}, or its folders cannot be read"

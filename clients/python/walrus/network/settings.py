@@ -2,7 +2,7 @@
 import dataclasses
 from typing import ClassVar
 
-from .configuration import File, Role
+from .configuration import ANYONE, File, Role
 from .exposure import Options
 
 
@@ -28,6 +28,8 @@ class Settings(Role):
     reserve: float = 0.05  # fraction of the disk that is kept free
     scrub: float = 30.0  # days in which everything held is read and judged once; 0 for never
     scrub_rate: int = 20_000_000  # bytes a second that a scrub reads at most
+    grace: float = 604_800.0  # seconds for which files that nothing names are kept aside before they are deleted
+    reads: str = ANYONE  # who may read blobs here: anyone, or only members, who show a certificate of the network
     metrics: str = ""  # where Prometheus reads metrics: PORT on loopback alone, or HOST:PORT
     recorded: bool = False  # keep all requests and replies, for network/trace
 

@@ -23,6 +23,7 @@ start the node without them: the others fill it (network/OPERATING.md)""".replac
 THREADS = 4  # for work that may wait long for the disk
 Result = TypeVar("Result")
 Written = asyncio.Future[bool]  # whether one group of staged statements is on the disk
+LONG, LONGEST = 4_194_304, 67_108_864  # bytes of SQLite's log that a thread brings into the database; of it in all
 SOON, LATER = 0.002, 0.5  # seconds until a commit: if a reply waits for it; if nobody does
 
 
@@ -30,7 +31,10 @@ class Staged(Database):
     """A database with group commit. Staged statements are committed together soon after, and are on the disk once a
     thread has synced SQLite's log. So a slow disk delays nothing else, and what is staged meanwhile shares the next
     commit and sync. What cannot be committed is lost. After a failed sync nobody knows what the disk has: nothing more
-    is reported to be there, and `fail` is called, which ends the node."""
+    is reported to be there, and `fail` is called, which ends the node.
+
+    The thread also brings SQLite's log into the database, over a connection of its own. Nothing is committed meanwhile,
+    as two connections that write at the same moment may damage a database before SQLite 3.51.3."""
 
     seconds = 5.0  # for a lock of SQLite, while the whole event loop waits
 
@@ -42,7 +46,11 @@ class Staged(Database):
         self.committed = list[tuple[Written, list[str]]]()  # to sync next; files to remove then
         self.last: Optional[Written] = None  # for the last commit
         self.syncing = list[tuple[Written, list[str]]]()  # what is being synced
-        self.syncs = queue.SimpleQueue[Optional[asyncio.AbstractEventLoop]]()  # syncs to make: whom to report to
+        self.syncs = queue.SimpleQueue[Optional[Callable[[], None]]]()  # what the thread is to do
+        self.unsynced: Optional[OSError] = None  # why a sync failed, and all later ones do
+        self.length = self.brought = 0  # bytes of SQLite's log, and how many of them the database has
+        self.bringing: Optional["asyncio.Future[None]"] = None  # the thread brings them in
+        self.ended = False  # the database is closed
         try:
             super().__init__(str(self.path), str(self.path.with_suffix(".parts")))
         except BlockingIOError as fault:
@@ -52,7 +60,7 @@ class Staged(Database):
         self.log = self.opened.enter_context(open(f"{self.path}-wal", "rb"))  # kept open: it reports each fault once
         self.files.sync(self.path.parent)  # the folder of the log
         self.pool = concurrent.futures.ThreadPoolExecutor(THREADS, "disk")  # asyncio's may be busy resolving names
-        self.syncer = threading.Thread(target=self.sync, name="sync", daemon=True)  # cheaper than a pool
+        self.syncer = threading.Thread(target=self.work, name="sync", daemon=True)  # cheaper than a pool
         self.syncer.start()
 
     def open_tables(self) -> None:
@@ -62,6 +70,8 @@ class Staged(Database):
                 errno.EINVAL, f"SQLite keeps no log on the disk of {self.path}: put the database on another one"
             )
         self.base.execute("PRAGMA synchronous = NORMAL")
+        self.base.execute("PRAGMA wal_autocheckpoint = 0")  # which would sync the log and the database in a commit
+        self.base.execute("PRAGMA journal_size_limit = 0")  # a log that begins anew has no old rest
         self.base.text_factory = functools.partial(str, encoding="utf-8", errors="replace")
         self.files = Files(self.path.with_suffix(".parts"))
 
@@ -120,6 +130,9 @@ class Staged(Database):
             if self.pending:
                 self.base.execute("COMMIT")
                 self.fault = ""
+                if self.length >= LONGEST:  # it did not begin anew, as it does with a transaction behind a whole one
+                    self.length = self.brought = 0
+                    self.bring(self.base)
         except sqlite3.Error as fault:
             self.lose(fault)
             return False
@@ -134,25 +147,64 @@ class Staged(Database):
         done = self.commit()
         if self.committed and not self.syncing:
             self.syncing, self.committed = self.committed, []
-            self.syncs.put(asyncio.get_running_loop())
+            self.syncs.put(functools.partial(self.sync, asyncio.get_running_loop()))
         return done
 
     def commit_soon(self) -> None:
-        """Flush what has waited long enough. If a sync is under way, `synced` does that at its end."""
-        if not self.syncing:
+        """Flush what has waited long enough. If the thread is at work, that is done at the end of its work."""
+        if not self.syncing and not self.bringing:
             self.flush()
 
-    def sync(self) -> None:
-        """Sync SQLite's log whenever asked, in a thread, while the database is open. After one fault all syncs fail."""
-        fault: Optional[OSError] = None
-        while loop := self.syncs.get():
-            try:
-                if not fault:
-                    os.fdatasync(self.log)
-            except OSError as it:
-                words = f"the log of {self.path} is not synced: {it.strerror}; look at the disk before it fails again"
-                fault = OSError(it.errno, words)
-            loop.call_soon_threadsafe(self.synced, fault)
+    def work(self) -> None:
+        """Do whatever the thread is asked to, while the database is open."""
+        while step := self.syncs.get():
+            step()
+
+    def sync(self, loop: asyncio.AbstractEventLoop) -> None:
+        """Sync SQLite's log, in the thread. After one fault all syncs fail."""
+        try:
+            if not self.unsynced:
+                os.fdatasync(self.log)
+        except OSError as it:
+            words = f"the log of {self.path} is not synced: {it.strerror}; look at the disk before it fails again"
+            self.unsynced = OSError(it.errno, words)
+        loop.call_soon_threadsafe(self.synced, self.unsynced)
+
+    def bring_soon(self) -> bool:
+        """Have the thread bring SQLite's log into the database if much of it has come since the last time; return
+        whether it does."""
+        length = os.fstat(self.log.fileno()).st_size
+        self.length, self.brought = length, self.brought if length >= self.length else 0  # else it began anew
+        if length - self.brought < LONG:
+            return False
+        loop, self.brought = asyncio.get_running_loop(), length
+        self.bringing = loop.create_future()
+        self.base.execute(f"PRAGMA cache_spill = {LONGEST}")  # pages: what is staged meanwhile stays in memory
+
+        def bring() -> None:
+            with contextlib.suppress(sqlite3.Error), contextlib.closing(sqlite3.connect(self.path)) as base:
+                self.bring(base)
+            loop.call_soon_threadsafe(self.is_brought)
+
+        self.syncs.put(bring)
+        return True
+
+    def is_brought(self) -> None:
+        """Go on with what came while the log was brought into the database."""
+        if self.bringing and not self.ended:
+            self.bringing.set_result(None)
+            self.bringing = None
+            self.base.execute("PRAGMA cache_spill = 1")
+            self.flush_due()
+
+    def bring(self, base: sqlite3.Connection) -> None:
+        with contextlib.suppress(sqlite3.Error):  # such as of a full disk: the log stays as it is, and is whole
+            base.execute("PRAGMA wal_checkpoint(PASSIVE)").fetchall()
+
+    async def calm(self) -> None:
+        """Wait while nothing may be committed."""
+        while self.bringing:
+            await asyncio.shield(self.bringing)
 
     def synced(self, fault: Optional[OSError]) -> None:
         """Report a sync to those who wait for it, and flush what was committed or became due meanwhile."""
@@ -162,6 +214,11 @@ class Staged(Database):
             self.abandon(() if fault else dropped)
         if fault:
             self.fail(fault)
+        elif not self.ended and self.bring_soon():
+            return
+        self.flush_due()
+
+    def flush_due(self) -> None:
         if self.committed or self.pending and self.flushed.when() <= asyncio.get_running_loop().time():
             self.flush()
 
@@ -182,6 +239,7 @@ class Staged(Database):
         """Stage what must be on the disk before the node goes on, and retry each second until it is there. Raises if
         the database is torn, as no retry mends that."""
         while True:
+            await self.calm()
             with contextlib.suppress(sqlite3.OperationalError):
                 stage()
                 if self.flush() and await self.durable():
@@ -198,14 +256,16 @@ class Staged(Database):
             with contextlib.closing(self.reader()) as base:
                 return ask(base)
 
+        await self.calm()
         self.flush()  # so that the thread sees what is staged
         return await asyncio.get_running_loop().run_in_executor(self.pool, read)
 
     def close(self) -> None:
-        self.commit()  # SQLite syncs it as it closes the database
-        waiting, self.committed, self.syncing = self.syncing + self.committed, [], []
+        self.ended = True
         self.syncs.put(None)
         self.syncer.join()
+        self.commit()  # SQLite syncs it, and brings it into the database, as it closes that
+        waiting, self.committed, self.syncing = self.syncing + self.committed, [], []
         self.pool.shutdown()
         super().close()
         for written, _ in waiting:

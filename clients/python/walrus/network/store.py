@@ -10,6 +10,7 @@ import pathlib
 import shutil
 import sqlite3
 import sys
+import time
 import weakref
 from typing import Any, Callable, Iterable, NamedTuple, Optional, Sequence
 
@@ -22,6 +23,8 @@ from .staged import Staged
 LAST = b"\xff" * 32  # the greatest identifier
 VERSION, BATCH = 1, 50  # of the tables; parts or blobs that are deleted at once: others wait meanwhile
 SEEN = "epoch <= ? AND (gone IS NULL OR gone > ?)"  # what a shard of an epoch holds
+MARK = """UPDATE held SET wrong = 1 WHERE holding = ? AND identifier = ? AND part = ?
+    AND content = (SELECT content FROM contents WHERE file = ?)"""  # a part whose file, of this name, is not there
 SETTLED = f"max(part = {METADATA}) AND (total(part IN ({PRIMARY}, {SECONDARY})) = 2 OR max(part = {PROOF}))"
 TABLES = """
 CREATE TABLE IF NOT EXISTS holdings (holding INTEGER PRIMARY KEY) STRICT;
@@ -33,6 +36,8 @@ CREATE TABLE IF NOT EXISTS held (holding INTEGER, identifier BLOB, part INTEGER,
 CREATE INDEX IF NOT EXISTS going ON held (gone) WHERE gone IS NOT NULL;
 CREATE TABLE IF NOT EXISTS contents (content INTEGER PRIMARY KEY, payload BLOB NOT NULL, file TEXT) STRICT;
 CREATE UNIQUE INDEX IF NOT EXISTS of_file ON contents (file) WHERE file IS NOT NULL;
+CREATE TABLE IF NOT EXISTS unnamed (holding INTEGER, identifier BLOB, since REAL, PRIMARY KEY (holding, identifier))
+    WITHOUT ROWID, STRICT;
 CREATE TABLE IF NOT EXISTS state (name TEXT PRIMARY KEY, value TEXT) STRICT;
 CREATE TABLE IF NOT EXISTS history (place INTEGER PRIMARY KEY AUTOINCREMENT, revision INTEGER, epoch INTEGER,
     shard INTEGER, request BLOB, reply BLOB) STRICT;
@@ -197,7 +202,19 @@ class Store(Staged):
     def expire(self, expired: Sequence[bytes], before: float = float("inf")) -> None:
         """Stage the deletion of the parts of expired blobs that have been held since before an epoch."""
         for identifier in expired:
+            self.stage("DELETE FROM unnamed WHERE identifier = ?", identifier)
             self.drop("holding IN (SELECT holding FROM sides) AND identifier = ? AND epoch < ?", identifier, before)
+
+    def unnamed(self, holding: int, identifier: bytes, is_so: bool) -> float:
+        """Stage that no entry of the ledger names a blob that is held, or that one names it after all. Return since
+        when none does, in seconds since 1970."""
+        where, now = "holding = ? AND identifier = ?", time.time()
+        row = self.base.execute(f"SELECT since FROM unnamed WHERE {where}", (holding, identifier)).fetchone()
+        if row and (not is_so or row[0] > now):  # named again, or the clock was ahead: it counts from now on
+            self.stage(f"DELETE FROM unnamed WHERE {where}", holding, identifier)
+        if is_so and not (row and row[0] <= now):
+            self.stage("INSERT INTO unnamed VALUES (?, ?, ?)", holding, identifier, now)
+        return min(float(row[0]), now) if row else now
 
     def sweep(self) -> bool:
         """Stage the deletion of some parts that every committee here has forgotten, or else of some blobs of a shard

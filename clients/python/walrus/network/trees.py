@@ -66,14 +66,15 @@ class Sending:
         return names[0], told
 
     async def is_kept(self, name: bytes) -> bool:
-        """Whether a blob is certified, and kept for long enough; False if the gateway does not tell."""
+        """Whether a blob is certified, held, and kept for long enough; False if the gateway does not tell."""
         try:
-            told = await patiently(lambda: ask(self.session, "GET", f"/v1/status/{name.hex()}"))
+            told = await patiently(lambda: ask(self.session, "GET", f"/v1/status/{name.hex()}", params={"held": "1"}))
         except Failure as fault:
             if isinstance(fault, Busy):
                 raise  # each further piece would be asked for as patiently
             return False
-        is_kept = bool(told["certificate"]) and not told["invalid"] and told["endEpoch"] >= self.until
+        is_held = bool(told["certificate"]) and not told["invalid"] and bool(told.get("held"))
+        is_kept = is_held and told["endEpoch"] >= self.until
         self.end = min(self.end, told["endEpoch"]) if is_kept else self.end
         return is_kept
 

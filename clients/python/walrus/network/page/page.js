@@ -62,6 +62,13 @@ function ownOf(node) {
   return (node.shards.length ? list(node.shards) : "none") + next;
 }
 
+function waitsOf(status) { // for which blobs a handover waits, by node; a gateway of an earlier version tells none
+  return status.nodes.filter((it) => it.waits).map(({ name, waits }) => {
+    const first = waits.first.map((it) => `${it.slice(0, 16)}…`).join(" "), more = waits.blobs - waits.first.length;
+    return `; ${name} waits for ${waits.blobs.toLocaleString()} blobs${first && `: ${first}`}${first && more > 0 ? " and more" : ""}`;
+  }).join("");
+}
+
 function heldOf({ held }) {
   return held && held.bytes !== undefined ? `${(held.blobs || 0).toLocaleString()} blobs, ${bytes(held.bytes)}` : "";
 }
@@ -106,7 +113,7 @@ function show(status) {
   at("epoch-text").textContent = `Epoch ${status.epoch}: ${Math.round(100 * Math.max(0, over))} % of its planned time is over`;
   at("epoch-bar").value = Math.min(1, Math.max(0, over));
   at("move").hidden = !status.moving;
-  at("move-text").textContent = `Handover to epoch ${status.epoch + 1}: ${status.ready} of ${status.quorum} needed shards are ready`;
+  at("move-text").textContent = `Handover to epoch ${status.epoch + 1}: ${status.ready} of ${status.quorum} needed shards are ready${waitsOf(status)}`;
   at("move-bar").max = status.quorum;
   at("move-bar").value = Math.min(status.ready, status.quorum);
   tell("storing", status.storing.possible || status.ledger.stale ? "" : `Nothing can be stored now: ${status.storing.why}.`);
