@@ -13,7 +13,7 @@ from typing import Any, Awaitable, Callable, Optional, Union
 from aiohttp import hdrs, web
 from .. import client
 
-from . import certificates
+from . import certificates, private
 from .access import CommonLog, log_to
 from .announcing import Announcer
 from .client import Access, Network
@@ -245,10 +245,13 @@ async def serve(
 ) -> int:
     """Runs a gateway until `told` is set, and returns 0. Raises if it can no longer follow the ledger or ask nodes."""
     keep_buffers()
+    access = access if isinstance(access, Access) else Access.within(access, "publisher")
+    private.begin(access.state)
     gc.freeze()
     gc.set_threshold(2_000)  # the default of 700 objects costs a tenth of its processor time when many store at once
     async with Network(access, seconds=options.patience, kept=True) as network:
         gateway = Gateway(network, network.authority.parent, options)
+        private.close_database(str(gateway.publisher.used))
         try:
             port = await gateway.listen(host, port)
             scheme = "https" if gateway.certificate else "http"

@@ -209,10 +209,10 @@ class Unfinished:
         made.mkdir(parents=True, mode=0o700)
         try:
             (made / "names").touch()
-            text = json.dumps(about).encode()
-            must_fit(made, len(text), self.reserve, FULL)
+            said = json.dumps(about).encode()
+            must_fit(made, len(said), self.reserve, FULL)
             with open(made / "about", "wb", buffering=0) as file:
-                write(file, memoryview(text))
+                write(file, memoryview(said))
         except BaseException:
             shutil.rmtree(made, ignore_errors=True)  # otherwise it would take a place that no client knows of
             raise
