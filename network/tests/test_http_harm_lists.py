@@ -13,9 +13,26 @@ from folder_case import manifest_of
 from harm_case import HarmCase
 from ledger_case import registration
 from walrus.network import folders, listing, problems, shelf
+from walrus.network.chunks import MARK as LIST, PIECE
 from walrus.network.client import Network
 from walrus.network.manifest import MARK, Place
 from walrus.network.sealed import Sealed
+
+
+class Pieces(HarmCase):
+    async def test_the_list_of_a_file_is_given_as_its_blob_has_it(self) -> None:
+        await self.start()
+        listed = LIST + (PIECE + 1).to_bytes(8, "big") + bytes(32) + bytes([1] * 32)
+        name = self.keep(listed)
+        status, headers, body = await self.ask("GET", f"/v1/lists/{name}")
+        self.assertEqual((status, body, headers["etag"]), (200, listed, f'"{name}/list"'))
+        self.assertIn("immutable", headers["cache-control"])
+        self.assertEqual((await self.ask("HEAD", f"/v1/lists/{name}"))[1]["content-length"], "88")
+        found = await self.ask("GET", f"/v1/lists/{name}", headers={"If-None-Match": headers["etag"]})
+        self.assertEqual(found[0], 304)
+        status, _, told = await self.ask("GET", f"/v1/lists/{self.keep(b'one blob')}")
+        self.assertEqual(status, 404)
+        self.assertIn("is one blob, and has no list", told["error"]["text"])
 
 
 class Lists(HarmCase):

@@ -2,6 +2,7 @@
 walrus or its library."""
 import asyncio
 import contextlib
+import functools
 import json
 import os
 import re
@@ -13,7 +14,7 @@ import aiohttp
 from .. import bundles, client, library
 
 from .checked import Naming, is_named
-from .chunks import LONGEST
+from .chunks import LONGEST, PIECE, File
 from .local import find_program
 from .manifest import clean
 
@@ -25,6 +26,10 @@ BY_STATUS, AWAY = {404: 4, 410: 3, 503: 4}, (429, 502, 503, 504)  # exit statuse
 
 class Failure(Exception):
     """A command that failed: why, in a sentence, and the exit status."""
+
+
+class TooLong(Failure):
+    """A gateway sends more than a file has."""
 
 
 class Busy(Failure):
@@ -202,7 +207,12 @@ async def fetch(session: aiohttp.ClientSession, name: str, out: IO[bytes]) -> in
         while part := out.read(PART):
             await naming.add(part)
         before = naming.size
-        size = await receive(session, blob, out, naming, done=before)
+        longer = functools.partial(length_of, session, blob, naming)
+        try:
+            size = await receive(session, blob, out, naming, done=before, most=PIECE, longer=longer)
+        except TooLong:
+            out.truncate(0)
+            raise
         if await is_named(out, bytes.fromhex(blob), naming):
             break
         out.seek(0)
@@ -226,6 +236,29 @@ async def fetch(session: aiohttp.ClientSession, name: str, out: IO[bytes]) -> in
     return out.write(members[int(number)])
 
 
+async def length_of(session: aiohttp.ClientSession, name: str, naming: Naming) -> int:
+    """Returns the length of a file of several pieces: an identifier commits to it by the list of the pieces, which the
+    gateway gives. Raises `Failure` if that has another identifier."""
+    listed, lies = (
+        bytearray(),
+        "the gateway gives more than 16 MiB for an identifier of a shorter file: this gateway lies",
+    )
+    async with session.get(f"/v1/lists/{name}") as response:
+        if response.status == 404:
+            raise TooLong(lies, 1)
+        await check(response)
+        async for part in response.content.iter_any():
+            listed += part
+            if len(listed) > PIECE:
+                raise TooLong(lies, 1)
+    identifier, data = bytes.fromhex(name), bytes(listed)
+    names = [await Naming(naming.walrus, naming.faults, form).name(data) for form in (1, 2)]
+    file = File.of(identifier, data)
+    if identifier not in names or file.names == identifier:
+        raise TooLong(lies, 1)
+    return file.length
+
+
 async def receive(
     session: aiohttp.ClientSession,
     name: str,
@@ -234,11 +267,18 @@ async def receive(
     shared: Optional[Bar] = None,
     done: int = 0,
     most: int = LONGEST,
+    longer: Optional[Callable[[], Awaitable[int]]] = None,
 ) -> int:
     """Writes what a gateway gives for a name from byte `done` on, and goes on after a broken connection. Returns the
     length of the whole file. Raises `Failure` after `TRIES` breaks without progress, and if it has more than `most`
-    bytes, as a gateway may send without end."""
+    bytes, or those that `longer` then returns: a gateway may send without end, and would fill the disk."""
     tries, start, furthest = 0, done, done
+
+    async def keep(part: bytes) -> None:
+        out.write(part)
+        await naming.add(part)
+        bar.add(len(part))
+
     with contextlib.nullcontext(shared) if shared else Bar(name[:16]) as bar:
         bar.add(done)
         while True:
@@ -253,11 +293,15 @@ async def receive(
                     bar.size = bar.size if shared else done - again + (it.content_length or 0)
                     async for part in it.content.iter_any():
                         part, again = part[again:], max(0, again - len(part))
+                        if done + len(part) > most and longer:
+                            room = max(0, most - done)  # the gateway may go meanwhile: what has come stays
+                            await keep(part[:room])
+                            part, done = part[room:], done + room
+                            most, longer = await longer(), None
                         if done + len(part) > most:
-                            raise Failure(f"the gateway gives more than the {most} bytes that the file may have", 3)
-                        done += out.write(part)
-                        await naming.add(part)
-                        bar.add(len(part))
+                            raise TooLong(f"the gateway gives more than the {most} bytes that the file may have", 3)
+                        await keep(part)
+                        done += len(part)
                     return done
             except (aiohttp.ClientConnectionError, aiohttp.ClientPayloadError) as fault:
                 tries, furthest = (1 if done > furthest else tries + 1), max(furthest, done)
