@@ -106,6 +106,7 @@ class Storing:
 class Spool(pieces.Spool):
     """Holds the bytes of a folder as they arrive."""
 
+    chunk = 65_536  # small files are read one by one
     full = FULL
 
     def cut(self, end: int) -> None:

@@ -13,7 +13,7 @@ from typing import IO, Any, AsyncGenerator, AsyncIterator, Optional, Union
 from ..fairness import Line
 
 from .problems import Problem
-from .sealed import Away, Blob, Data, Sealed
+from .sealed import CHUNK, Away, Blob, Data, Sealed
 from .threads import DISK, in_thread, to_the_end
 from .turns import ASKING
 
@@ -45,8 +45,12 @@ def must_fit(place: Union[int, pathlib.Path], size: int, reserve: float, full: s
 
 
 async def part_of(blob: Blob, start: int, end: int) -> Union[bytes, memoryview]:
-    """Returns a span of a blob; raises `Damaged` if it is in a file, and the disk gives back something else."""
-    return await in_thread(blob.read, start, end) if isinstance(blob, Away) else memoryview(blob)[start:end]
+    """Returns a span of a blob; raises `Damaged` if it is in a file, and the disk gives back something else. A thread
+    reads it only if the system does not have it in memory: to go there and back takes as long as to read 256 KiB."""
+    if not isinstance(blob, Away):
+        return memoryview(blob)[start:end]
+    found = blob.at_once(start, end) if isinstance(blob, Sealed) and start < end else None
+    return await in_thread(blob.read, start, end) if found is None else found
 
 
 async def parts_of(blob: Blob, start: int = 0) -> AsyncIterator[Union[bytes, memoryview]]:
@@ -64,6 +68,7 @@ class Spool:
     """Data that arrives: the end of it is in memory, and all before that in a file without a name. Threads write and
     read the file, so that a busy disk holds up nobody else. `reserve` is the fraction of the disk that stays free."""
 
+    chunk = CHUNK  # bytes of the file that are read, and checked, together
     full = FULL  # the text of the error if less than that would stay free
 
     def __init__(self, reserve: float = 0.0) -> None:
@@ -97,7 +102,7 @@ class Spool:
     def write(self, place: int, *parts: Data) -> Sealed:
         with self.turn:
             if self.file is None:
-                self.file = Sealed()
+                self.file = Sealed(self.chunk)
             must_fit(self.file.file, sum(map(len, parts)), self.reserve, self.full)
             if place < len(self.file):
                 self.file.cut(place)

@@ -27,7 +27,7 @@ from .threads import to_the_end
 from .turns import ASKING, PARTS, WAITING, Together, Turns, owner_of
 
 KIND = "application/octet-stream"
-PROMPT, TRIES = 0.05, 3  # seconds in which a client takes a part if it is not slow; readings of a blob on a bad disk
+PROMPT, TRIES = 1.0, 3  # seconds in which a client takes a part if it is not slow; readings of a blob on a bad disk
 BARE, READINGS = 73_400_320, 16  # bytes that an idle gateway takes; blobs that are read at once, if memory allows
 AHEAD, LOOK = 5, 1.0  # pieces of a file that are read at once for one client; seconds between two looks at the disk
 SILENCE, SUMS = 30.0, 65_536  # deadline in seconds to send a slice or receive anything; the most digests that are kept

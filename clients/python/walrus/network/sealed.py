@@ -4,14 +4,16 @@ Each chunk has a tag: Poly1305 under a random key, both of which stay in memory.
 that somebody chose who can write to the disk. It takes less time than CRC-32, and a sixth of that of BLAKE2b."""
 import array
 import bisect
+import contextlib
 import os
 import tempfile
 import weakref
-from typing import Union
+from typing import Optional, Union
 
 from cryptography.hazmat.primitives.poly1305 import Poly1305
 
-CHUNK, TAG, FRONT = 65_536, 16, 64  # most bytes of a chunk; bytes of its tag; bytes of a file that stay in memory
+CHUNK = 262_144  # most bytes of a chunk: a tag takes 73 us of a processor for these, and 19 us for a single byte
+TAG, FRONT = 16, 64  # bytes of a tag; bytes of a file that stay in memory
 Data = Union[bytes, bytearray, memoryview]
 
 
@@ -74,7 +76,8 @@ class Sealed(Away):
 
     def read(self, start: int, end: int) -> memoryview:
         at, data = self.chunks(start, end) if start < end else (start, b"")
-        return memoryview(data)[start - at : end - at]  # noqa: E203
+        view = memoryview(data)[start - at : end - at]  # noqa: E203
+        return view if 2 * len(view) > len(data) else memoryview(bytes(view))  # what is not asked for takes no memory
 
     def peek(self, start: int, end: int) -> bytes:
         """Like `read`, for a short span. The chunks that it read last stay in memory for the next one."""
@@ -85,20 +88,41 @@ class Sealed(Away):
             at, data = self.last = self.chunks(start, end)
         return data[start - at : end - at]  # noqa: E203
 
+    def at_once(self, start: int, end: int) -> Optional[memoryview]:
+        """Like `read`, but returns None if that would wait for the disk, as the system does not have it in memory."""
+        first, behind = self.touched(start, end)
+        at = self.ends[first - 1] if first else 0
+        data = bytearray(self.ends[behind - 1] - at)
+        read = 0
+        with contextlib.suppress(OSError):  # it would wait, or this system cannot tell
+            read = os.preadv(self.file, [data], at, os.RWF_NOWAIT)
+        if read < len(data):
+            return None
+        self.check(data, at, first, behind)
+        return memoryview(data)[start - at : end - at]  # noqa: E203
+
+    def touched(self, start: int, end: int) -> tuple[int, int]:
+        """Returns the number of the first chunk that a span touches, and of the one behind the last."""
+        return bisect.bisect_right(self.ends, start), bisect.bisect_left(self.ends, end) + 1
+
     def chunks(self, start: int, end: int) -> tuple[int, bytes]:
         """Returns where the chunks begin that a span touches, and their bytes."""
-        first, behind = bisect.bisect_right(self.ends, start), bisect.bisect_left(self.ends, end) + 1
-        at = place = self.ends[first - 1] if first else 0
+        first, behind = self.touched(start, end)
+        at = self.ends[first - 1] if first else 0
         try:
             data = os.pread(self.file, self.ends[behind - 1] - at, at)
         except OSError as fault:
             raise self.damaged(f"cannot be read ({fault.strerror})") from None
-        view = memoryview(data)
+        self.check(data, at, first, behind)
+        return at, data
+
+    def check(self, data: Data, at: int, first: int, behind: int) -> None:
+        """Raises `Damaged` if the bytes of these chunks, which begin at `at`, are not those that were written."""
+        view, place = memoryview(data), at
         for number in range(first, behind):
             part, place = view[place - at : self.ends[number] - at], self.ends[number]  # noqa: E203
             if Poly1305.generate_tag(self.key, part) != self.tags[TAG * number : TAG * (number + 1)]:  # noqa: E203
                 raise self.damaged("gives back other bytes than were written")
-        return at, data
 
     def damaged(self, said: str) -> Damaged:
         self.is_damaged = True

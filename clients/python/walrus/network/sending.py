@@ -29,7 +29,8 @@ class Sending:
         """Sends the rest of the span. To a slow client it sends less at once, as that is in memory meanwhile."""
         while self.place < self.end:
             size = SLICE if self.pace.is_prompt or not isinstance(blob, Away) else PART
-            part = await part_of(blob, self.place, min(self.place + size, self.end))
+            end = min((self.place // size + 1) * size, self.end)  # where a chunk of a file ends
+            part = await part_of(blob, self.place, end)
             await self.write(self.pace, self.response, part)
             self.place += len(part)
 

@@ -15,7 +15,7 @@ from .threads import in_thread, to_the_end
 from .turns import ASKING, Turns
 
 MOST, ROOM, SLIGHT = 128, 67_108_864, 65_536  # most manifests kept; their bytes; bytes of one that memory holds
-CHUNK = 4_096  # bytes of a manifest that are read, and checked, to look up a line of it
+CHUNK = 16_384  # bytes of a manifest that are read, and checked, to look up a line of it
 WAITING = 8  # clients that wait for a manifest at once; one manifest at a time is read
 TOGETHER = 1_024  # blobs or files that are handled before other tasks run
 MOST_BLOBS = MOST_PIECES + 1  # most that one request keeps for longer: those of the longest file
