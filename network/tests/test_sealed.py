@@ -232,7 +232,7 @@ class Resumed(UploadCase):
         status, headers, told = await self.go_on(path, 700, b"", end=True)
         self.assertEqual((status, headers["upload-offset"]), (503, "0"), told)
         self.assertIn("is not what was written, and is dropped", told["error"]["text"])
-        self.assertEqual(self.blobs, {})
+        self.assertEqual(self.blobs, [])
         status, _, told = await self.go_on(path, 0, data, end=True)
         self.assertEqual((status, told["blobId"]), (201, self.name_of(data)))
 
