@@ -11,9 +11,10 @@ from typing import IO, Any, AsyncIterator, Iterator, Optional
 
 import aiohttp
 
+from .bar import Bar
 from .checked import Naming, written_whole
 from .chunks import LONGEST, PIECE
-from .transfers import PART, TRIES, Bar, Failure, ask, check, json_of, must_name, naming_of, put, reason_of, sending
+from .transfers import PART, TRIES, Failure, ask, check, json_of, must_name, naming_of, put, reason_of, sending
 from .unfinished import IDLE
 
 KIND = "application/partial-upload"
