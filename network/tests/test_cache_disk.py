@@ -8,8 +8,8 @@ from unittest import mock
 from guard_case import GuardCase
 from walrus.network import problems, reading
 from walrus.network.exposure import Options
-from walrus.network.pieces import is_away
 from walrus.network.reading import Reader
+from walrus.network.sealed import is_away
 
 
 class Disk:

@@ -12,6 +12,7 @@ from unittest import mock
 import harness  # noqa: F401  # which says where walrus is
 from upload_case import UploadCase
 from walrus.network import chunks, trees
+from walrus.network.bar import Bar
 from walrus.network.blobs import Blob
 from walrus.network.checked import Naming
 from walrus.network.entries import Entry, entry_key
@@ -23,7 +24,7 @@ from walrus.network.packing import SMALL
 from walrus.network.pieces import Memory
 from walrus.network.problems import Problem
 from walrus.network.shares import Charge
-from walrus.network.transfers import Bar, Busy, Failure
+from walrus.network.transfers import Busy, Failure
 
 SIZE = 1_000  # of a piece
 

@@ -6,6 +6,7 @@ import tempfile
 import threading
 import types
 import unittest
+import weakref
 from typing import Any, AsyncIterator, Optional
 from unittest import mock
 
@@ -152,8 +153,8 @@ class Spooled(unittest.IsolatedAsyncioTestCase):
 
     async def test_a_slow_disk_holds_up_nobody_else(self) -> None:
         for name, work in (
-            ("pwrite", lambda: self.spool.add(b"longer than ten bytes")),
-            ("pread", lambda: self.spool.read((21, 0))),
+            ("pwrite", lambda: self.spool.add(b"longer than ten bytes" * 9)),
+            ("pread", lambda: self.spool.read((21, 168))),
         ):
             made, goes_on = self.held(name)
             task = asyncio.create_task(work())
@@ -172,12 +173,13 @@ class Spooled(unittest.IsolatedAsyncioTestCase):
         task.cancel()
         with self.assertRaises(asyncio.CancelledError):
             await task
+        assert self.spool.file is not None
+        file = weakref.ref(self.spool.file)
         self.spool.close()
         await asyncio.sleep(0.01)
-        assert self.spool.file
-        self.assertFalse(self.spool.file.closed)  # else another file may have its number, and be written to
+        self.assertIsNotNone(file())  # else it is closed, and another file may have its number, and be written to
         goes_on.set()
-        while not self.spool.file.closed:
+        while file():
             await asyncio.sleep(0.001)
 
     async def test_a_slow_disk_holds_up_no_other_upload(self) -> None:
@@ -186,7 +188,7 @@ class Spooled(unittest.IsolatedAsyncioTestCase):
                 yield part
 
         async def split(*sent: bytes) -> list[bytes]:
-            return [bytes(it) async for it in pieces.split(parts(*sent), 30)]
+            return [bytes(await pieces.in_memory(it)) async for it in pieces.split(parts(*sent), 30)]
 
         files, entered, goes_on = tempfile.TemporaryFile, threading.Event(), threading.Event()
         self.addCleanup(goes_on.set)
@@ -196,7 +198,7 @@ class Spooled(unittest.IsolatedAsyncioTestCase):
             goes_on.wait(20)
             return files(*words, **options)
 
-        self.enterContext(mock.patch.object(pieces.tempfile, "TemporaryFile", slow))
+        self.enterContext(mock.patch.object(tempfile, "TemporaryFile", slow))
         long = asyncio.create_task(split(b"longer than ten bytes", b", and so than the next piece"))
         while not entered.is_set():
             await asyncio.sleep(0.001)
@@ -205,7 +207,7 @@ class Spooled(unittest.IsolatedAsyncioTestCase):
         self.assertEqual(await long, [b"longer than ten bytes, and so ", b"than the next piece"])
 
     async def test_what_stays_in_memory_goes_through_no_thread(self) -> None:
-        with mock.patch.object(pieces, "DISK", None):
+        with mock.patch.object(pieces, "DISK", None), mock.patch.object(pieces, "in_thread", None):
             for sent in ([], [b""], [b"ten", b" bytes", b"."]):
                 spool = pieces.Spool()
                 for part in sent:

@@ -108,7 +108,7 @@ class Bounds(FolderGatewayCase):
 
     async def test_a_file_leaves_the_reserve_of_the_disk_free(self) -> None:
         await self.start()
-        self.enterContext(unittest.mock.patch.object(gathering.os, "statvfs", disk))
+        self.enterContext(unittest.mock.patch.object(os, "statvfs", disk))
         for size, wanted in ((900_000, 507), (700_000, 201)):
             kind, form = form_of({"a": bytes(size)})
             status, _, told = await self.ask("POST", "/v1/bundles?epochs=1", data=form, headers={"Content-Type": kind})
@@ -123,7 +123,7 @@ class Bounds(FolderGatewayCase):
 
     async def test_a_folder_leaves_the_reserve_of_the_disk_free(self) -> None:
         await self.start()
-        self.enterContext(unittest.mock.patch.object(gathering.os, "statvfs", disk))
+        self.enterContext(unittest.mock.patch.object(os, "statvfs", disk))
         for files in ({"film": bytes(800_002)}, {it: it.encode() * 300_000 for it in "abc"}):
             error = (await self.put_folder(tar_of(files), 507))["error"]
             self.assertIn("use walrus-net store FOLDER, which checks the names first", error["text"])

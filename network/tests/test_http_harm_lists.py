@@ -2,7 +2,7 @@
 import asyncio
 import concurrent.futures
 import gc
-import mmap
+import os
 import threading
 import unittest
 import weakref
@@ -13,45 +13,67 @@ from folder_case import manifest_of
 from harm_case import HarmCase
 from ledger_case import registration
 from walrus.network import folders, listing, problems, shelf
+from walrus.network.chunks import MARK as LIST, PIECE
 from walrus.network.client import Network
 from walrus.network.manifest import MARK, Place
+from walrus.network.sealed import Sealed
+
+
+class Pieces(HarmCase):
+    async def test_the_list_of_a_file_is_given_as_its_blob_has_it(self) -> None:
+        await self.start()
+        listed = LIST + (PIECE + 1).to_bytes(8, "big") + bytes(32) + bytes([1] * 32)
+        name = self.keep(listed)
+        status, headers, body = await self.ask("GET", f"/v1/lists/{name}")
+        self.assertEqual((status, body, headers["etag"]), (200, listed, f'"{name}/list"'))
+        self.assertIn("immutable", headers["cache-control"])
+        self.assertEqual((await self.ask("HEAD", f"/v1/lists/{name}"))[1]["content-length"], "88")
+        found = await self.ask("GET", f"/v1/lists/{name}", headers={"If-None-Match": headers["etag"]})
+        self.assertEqual(found[0], 304)
+        status, _, told = await self.ask("GET", f"/v1/lists/{self.keep(b'one blob')}")
+        self.assertEqual(status, 404)
+        self.assertIn("is one blob, and has no list", told["error"]["text"])
 
 
 class Lists(HarmCase):
     async def test_of_a_malformed_manifest_nothing_stays_but_why(self) -> None:
         """Otherwise each keeps as much of the disk as it had, and 128 are kept."""
         await self.start()
-        made = list["weakref.ref[mmap.mmap]"]()
+        made = list["weakref.ref[Sealed]"]()
 
-        class Map(mmap.mmap):
-            def __init__(self, *_: Any, **words: Any) -> None:
+        class File(Sealed):
+            def __init__(self, *words: Any) -> None:
+                super().__init__(*words)
                 made.append(weakref.ref(self))
 
         for front in (MARK, b"none"):
             name = self.keep(front + bytes(70_000))
-            with mock.patch.object(shelf.mmap, "mmap", Map):
+            with mock.patch.object(shelf, "Sealed", File):
                 found = [(await self.ask("GET", f"/v1/folders/{name}/"))[0] for _ in range(2)]
             self.assertEqual(found, [410 if front == MARK else 404] * 2)
             self.assertIn(bytes.fromhex(name), self.gateway.shelf.none)
         gc.collect()
-        self.assertEqual([it() for it in made], [None])
+        self.assertEqual([it() for it in made], [None])  # what does not begin as a manifest is not copied
 
     async def test_a_disk_that_is_slow_with_a_manifest_holds_up_nobody(self) -> None:
         await self.start()
         name, wrote = self.keep(MARK + b"".join(b"%08d\ta/b\t0\t-\n" % it for it in range(9_000))), list[int]()
-        usual = shelf.tempfile.TemporaryFile
+        read, usual = list[int](), {"pwrite": os.pwrite, "pread": os.pread}
 
-        def opened(**words: Any) -> Any:
-            file, out = usual(**words), mock.MagicMock()
-            out.__enter__.return_value = out
-            out.tell, out.fileno = file.tell, file.fileno
-            out.write = lambda data: wrote.append(threading.get_ident()) or file.write(data)
-            return out
+        def pwrite(*words: Any) -> int:
+            wrote.append(threading.get_ident())
+            return usual["pwrite"](*words)
 
-        with mock.patch.object(shelf.tempfile, "TemporaryFile", opened):
+        def pread(*words: Any) -> Any:
+            read.append(threading.get_ident())
+            return usual["pread"](*words)
+
+        with mock.patch.multiple(os, pwrite=pwrite, pread=pread):
             status, _, told = await self.ask("GET", f"/v1/folders/{name}/", headers={"Accept": "application/json"})
-        self.assertEqual((status, len(told["entries"]), len(wrote)), (200, 9_000, 2))  # the manifest, and the list
-        self.assertNotIn(threading.main_thread().ident, wrote)
+        self.assertEqual((status, len(told["entries"])), (200, 9_000))
+        self.assertGreaterEqual(len(wrote), 2)  # the manifest, and the list
+        self.assertGreaterEqual(len(read), 2)
+        self.assertNotIn(threading.main_thread().ident, [*wrote, *read])
 
     async def test_long_lists_of_folders_are_made_beside_what_others_ask(self) -> None:
         await self.start()

@@ -15,7 +15,7 @@ from aiohttp.test_utils import TestServer
 sys.path.insert(0, str(pathlib.Path(__file__).resolve().parents[2] / "clients" / "python"))
 
 from walrus import client  # noqa: E402
-from walrus.network import groups, ranges, transfers  # noqa: E402
+from walrus.network import bar, groups, ranges, transfers  # noqa: E402
 
 
 class Ranges(unittest.TestCase):
@@ -71,10 +71,10 @@ class Commands(unittest.IsolatedAsyncioTestCase):
     def test_a_bar_is_drawn_on_a_terminal_after_a_second(self) -> None:
         for terminal, expected in ((True, 15), (False, 0)):
             error = mock.MagicMock(wraps=io.StringIO(), isatty=lambda terminal=terminal: terminal)
-            times = mock.patch.object(transfers.time, "monotonic", side_effect=[0.0, 0.5, 1.5, 1.55])
-            with mock.patch("sys.stderr", error), times, transfers.Bar("file", 100) as bar:
+            times = mock.patch.object(bar.time, "monotonic", side_effect=[0.0, 0.5, 1.5, 1.55])
+            with mock.patch("sys.stderr", error), times, bar.Bar("file", 100) as drawn:
                 for _ in range(3):
-                    bar.add(25)
+                    drawn.add(25)
             text = "".join(call.args[0] for call in error.write.call_args_list)
             self.assertEqual(text.count("#"), expected, text)  # once, when half is done, and not again at once
             self.assertEqual(text.count("\r"), 2 * bool(expected), text)  # drawn, and removed

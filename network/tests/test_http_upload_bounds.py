@@ -8,7 +8,7 @@ from typing import Any
 from unittest import mock
 
 from upload_case import PATCH, UploadCase
-from walrus.network import pieces, unfinished
+from walrus.network import growing, pieces, unfinished
 
 
 class Refused(UploadCase):
@@ -133,7 +133,7 @@ class Refused(UploadCase):
         await self.start()
         data = os.urandom(1_000)
         path = (await self.begin(data))[1]["location"]
-        with mock.patch.object(unfinished, "write", mock.Mock(side_effect=OSError(28, "No space left on device"))):
+        with mock.patch.object(growing, "write", mock.Mock(side_effect=OSError(28, "No space left on device"))):
             status, headers, _ = await self.go_on(path, 1_000, b"more")
         self.assertEqual((status, headers["upload-offset"]), (503, "1000"))
         status, _, told = await self.go_on(path, 1_000, b"", end=True)
@@ -150,7 +150,7 @@ class Refused(UploadCase):
             went_on.append(goes_on.wait(20))
             pieces.write(*words)
 
-        self.enterContext(mock.patch.object(unfinished, "write", slow))
+        self.enterContext(mock.patch.object(growing, "write", slow))
         sending = asyncio.create_task(self.go_on(path, 0, b"x" * 1_500, end=True))
         while not entered.is_set():
             await asyncio.sleep(0.001)

@@ -11,7 +11,7 @@ from unittest import mock
 
 import harness  # noqa: F401  # which says where walrus is
 from walrus import client, wire
-from walrus.network import certificates, folders, gateway, reading, turns
+from walrus.network import certificates, folders, gateway, reading, shelf, turns
 from walrus.network.chunks import NAME, File
 from walrus.network.exposure import Options
 from walrus.network.manifest import Place
@@ -72,6 +72,8 @@ class Keeping(unittest.IsolatedAsyncioTestCase):
         made, seen = list["weakref.ref[Any]"](), list[object]()
 
         class Manifest:
+            data = b""
+
             def find(self, path: str) -> Place:
                 return Place(path, "text/plain", 0, b"")
 
@@ -80,12 +82,13 @@ class Keeping(unittest.IsolatedAsyncioTestCase):
             return found
 
         async def send(*_: object) -> None:
-            seen.append(made[0]())
+            seen.extend(it() for it in made)
 
-        found = folders.Folders(self.reader, mock.Mock(), mock.Mock(manifest=manifest), "")
-        with mock.patch.object(found, "send", send):
+        kept = shelf.Shelf(self.reader)
+        found = folders.Folders(self.reader, mock.Mock(), kept, "")
+        with mock.patch.object(found, "send", send), mock.patch.object(kept, "manifest", manifest):
             await found.answer(mock.Mock(), bytes(NAME), "a", {})
-        self.assertEqual(seen, [None])
+        self.assertEqual(seen, [None, None])
 
     async def test_a_client_that_says_nothing_over_tls_takes_little_memory(self) -> None:
         """An address may have 300 connections, and no byte of theirs counts as the gateway's memory."""

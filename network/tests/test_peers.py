@@ -12,7 +12,8 @@ from unittest import mock
 from harness import HERE
 from walrus import client, kinds
 from walrus.frames import answer
-from walrus.network import pieces, shelf
+from walrus.network import shelf
+from walrus.network.threads import THREADS
 from walrus.network.peers import FIGURES, LANES, LARGE, LOOKUPS, Peers, Seat
 
 
@@ -163,5 +164,5 @@ class Threads(unittest.IsolatedAsyncioTestCase):
         resolve the nodes of its network and of its page."""
         told = re.search(r"^TasksMax=(\d+)$", (HERE.parent / "units/walrus-gateway@.service").read_text(), re.MULTILINE)
         assert told
-        threads = 1 + 3 * 128 + pieces.THREADS + shelf.LISTS._max_workers + 2 * LOOKUPS
+        threads = 1 + 3 * 128 + THREADS + shelf.LISTS._max_workers + 2 * LOOKUPS
         self.assertGreaterEqual(int(told[1]), threads)

@@ -1,6 +1,7 @@
 """Resumable uploads when more than a connection breaks: after a power loss of the gateway, and while it answers that
 it cannot continue at present."""
 import asyncio
+import concurrent.futures
 import os
 import pathlib
 import resource
@@ -35,6 +36,16 @@ class PowerLoss(UploadCase):
         self.assertEqual((await self.begin())[0], 429)  # one of them may have just begun
         self.age(unfinished.UNHEARD + 1, [it.name for it in (self.folder / "tokens.uploads").iterdir()])
         self.assertEqual((await self.begin())[0], 201)
+
+
+class Beside(unittest.TestCase):
+    def test_commands_side_by_side_lose_no_entry(self) -> None:
+        folder = self.enterContext(tempfile.TemporaryDirectory())
+        self.enterContext(mock.patch.dict(os.environ, {"XDG_STATE_HOME": folder}))
+        with concurrent.futures.ThreadPoolExecutor(8) as pool:
+            list(pool.map(lambda it: resuming.Known([it]).keep(f"/v1/uploads/{it}"), range(80)))
+        self.assertEqual([resuming.Known([it]).find() for it in range(80)], [f"/v1/uploads/{it}" for it in range(80)])
+        self.assertEqual(sorted(os.listdir(pathlib.Path(folder, "walrus"))), ["uploads.json", "uploads.lock"])
 
 
 class Full(unittest.TestCase):

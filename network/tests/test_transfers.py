@@ -72,7 +72,9 @@ class Transfers(TransferCase):
                 await self.run_net("fetch", kept, "--output", self.out, status=status)
         self.named = name
         self.out.write_bytes(blob)
-        self.assertIn(name.encode(), (await self.run_net("store", self.out, "--epochs", "1"))[0])
+        told = (await self.run_net("store", self.out, "--epochs", "1"))[0]
+        self.assertIn(name.encode(), told)
+        self.assertIn(b"(checked here: the identifier; all else is the gateway's word)", told)
         self.assertTrue(self.bodies[-1] == blob)
 
     async def test_of_a_long_file_two_pieces_are_in_memory_at_most(self) -> None:

@@ -44,6 +44,27 @@ class Broken(TransferCase):
         self.assertEqual((self.out.read_bytes() == blob, self.left()), (True, ["out"]))
         self.assertEqual(self.starts, [0, 0, size])
 
+    async def test_of_a_liar_no_more_is_taken_than_the_file_has(self) -> None:
+        blob, long, _ = await self.long_file()
+        short = (await self.id(b"short")).hex()
+        self.files |= {short: bytes(5 * PIECE), long: blob + bytes(3 * PIECE)}
+        for name, lists, said in (
+            (short, {}, "more than 16 MiB for an identifier of a shorter file: this gateway lies"),
+            (
+                short,
+                {short: self.lists[long]},
+                "more than 16 MiB for an identifier of a shorter file",
+            ),  # of another file
+            (short, {short: bytes(2 * PIECE)}, "more than 16 MiB for an identifier of a shorter file"),
+            (long, {}, "more than 16 MiB for an identifier of a shorter file"),
+            (long, self.lists, f"gives more than the {len(blob)} bytes that the file may have"),
+        ):
+            kept, self.lists = self.lists, lists
+            _, error = await self.run_net("fetch", name, "--output", self.out, status=3 if lists is kept else 1)
+            self.lists = kept
+            self.assertIn(said, error)
+            self.assertEqual(self.left(), [])
+
     async def test_a_file_goes_on_after_its_gateway_went(self) -> None:
         blob, name, part = await self.long_file()
         self.gone = True

@@ -9,7 +9,7 @@ from unittest import mock
 
 from guard_case import GuardCase
 from walrus import client
-from walrus.network import chunks, shares, unfinished
+from walrus.network import chunks, sealed, shares, unfinished
 from walrus.network.blobs import Blob, Blobs
 from walrus.network.chunks import MARK
 
@@ -38,8 +38,8 @@ class UploadCase(GuardCase):
     def certificate(self, name: bytes) -> Optional[tuple[int, int]]:
         return (0, 4) if name in self.kept else None
 
-    async def store_blob(self, blob: bytes, until: int) -> tuple[bytes, bool]:
-        data = bytes(blob)
+    async def store_blob(self, blob: sealed.Blob, until: int) -> tuple[bytes, bool]:
+        data = bytes(blob.read(0, len(blob)) if isinstance(blob, sealed.Away) else blob)
         name = hashlib.sha256(data).digest()
         if self.away:
             raise client.Failed(self.away, {0: "it is away"})

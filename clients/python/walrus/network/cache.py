@@ -9,7 +9,7 @@ from typing import AsyncIterator, Awaitable, Callable
 
 from .. import client
 
-from .pieces import is_away
+from .sealed import Blob, Sealed, is_away
 
 # How blobs count towards the room: the least for one in a file; the factor for bytes in memory.
 LEAST, TIMES = 8_388_608, 64
@@ -21,20 +21,29 @@ LASTING = client.BadlyEncoded, client.NoBundle  # faults of the blob itself, whi
 class Entry:
     """A blob that was read or is being read, the bytes that it counts for, and the number of its users just now."""
 
-    task: "asyncio.Task[bytes]"
+    task: "asyncio.Task[Blob]"
     size: int = client.LARGEST_BLOB + EXTRA
     users: int = 0
 
+    def found(self) -> Blob:
+        """Returns the blob, or nothing if it has not been read."""
+        is_read = self.task.done() and not self.task.cancelled() and not self.task.exception()
+        return self.task.result() if is_read else b""
+
     def droppable(self) -> int:
         """Returns the bytes of the disk that are free once this is dropped; 0 if it is used, or not in a file."""
-        unused = self.task.done() and not self.users and not self.task.cancelled() and not self.task.exception()
-        return len(self.task.result()) if unused and is_away(self.task.result()) else 0
+        return len(self.found()) if not self.users and is_away(self.found()) else 0
+
+    def is_damaged(self) -> bool:
+        """Whether the disk has given back something else than what was read."""
+        blob = self.found()
+        return isinstance(blob, Sealed) and blob.is_damaged
 
 
 class Cache:
     """Blobs by identifier, within `room` bytes, in which those being read and those being sent count too."""
 
-    def __init__(self, read: Callable[[bytes, int], Awaitable[bytes]], room: int, turns: int):
+    def __init__(self, read: Callable[[bytes, int], Awaitable[Blob]], room: int, turns: int):
         self.read, self.room = read, max(room, client.LARGEST_BLOB + EXTRA)
         self.turns = asyncio.Semaphore(turns)
         self.entries: "collections.OrderedDict[bytes, Entry]" = collections.OrderedDict()
@@ -42,7 +51,7 @@ class Cache:
         self.size = self.hits = self.reads = 0
 
     @contextlib.asynccontextmanager
-    async def use(self, identifier: bytes, size: int = 0) -> AsyncIterator[bytes]:
+    async def use(self, identifier: bytes, size: int = 0) -> AsyncIterator[Blob]:
         """Yields a blob, which stays in the cache while it is used. `size` is its expected size, 0 if none is known.
         Raises what reading the blob raises."""
         while not (entry := self.find(identifier, size)):
@@ -60,8 +69,11 @@ class Cache:
             self.freed.set()
 
     def find(self, identifier: bytes, size: int = 0) -> "Entry | None":
-        """Returns the entry of a blob, and begins to read it if there is none; None if there is no room for it."""
+        """Returns the entry of a blob, and begins to read it if there is none, or if the disk has damaged it; None if
+        there is no room for it."""
         entry = self.entries.get(identifier)
+        if entry and entry.is_damaged():
+            self.size, entry = self.size - self.entries.pop(identifier).size, None
         if entry:
             self.hits += 1
             self.entries.move_to_end(identifier)
@@ -90,7 +102,7 @@ class Cache:
                 size -= freed
         return size <= 0
 
-    async def load(self, identifier: bytes, size: int) -> bytes:
+    async def load(self, identifier: bytes, size: int) -> Blob:
         async with self.turns:
             self.reads += 1
             try:
@@ -99,7 +111,7 @@ class Cache:
                 told = afresh(fault)
         raise told  # not in the `except` clause, as `fault` would be its context
 
-    def loaded(self, identifier: bytes, entry: Entry, task: "asyncio.Task[bytes]") -> None:
+    def loaded(self, identifier: bytes, entry: Entry, task: "asyncio.Task[Blob]") -> None:
         self.freed.set()
         fault = None if task.cancelled() else task.exception()
         if self.entries.get(identifier) is not entry:  # it was dropped as soon as the task had ended
@@ -117,7 +129,7 @@ class Cache:
         await asyncio.gather(*(it.task for it in self.entries.values()), return_exceptions=True)
 
 
-def cost_of(blob: bytes) -> int:
+def cost_of(blob: Blob) -> int:
     """Returns the bytes that a blob counts for in the room."""
     return max(LEAST, len(blob)) if is_away(blob) else min(TIMES * len(blob), client.LARGEST_BLOB)
 

@@ -19,7 +19,9 @@ from .forms import files_of
 from .ledger import LAST_UNTIL
 from .pieces import Memory
 from .problems import Problem
+from .sealed import Away, Blob, Data, Span, front_of, put_away
 from .source import Source
+from .threads import to_the_end
 from .turns import ASKING
 
 PIECE = client.LARGEST_BLOB
@@ -40,15 +42,17 @@ class File:
     identifier, or that of a bundle's member, which is the bundle's identifier followed by the member's number."""
 
     length: int
-    names: Union[bytes, memoryview]  # for a list a view of its blob, so that its readers share one copy
+    names: Union[bytes, memoryview, Span]  # for a list a view of its blob, so that its readers share one copy
 
     @classmethod
-    def of(cls, identifier: bytes, blob: bytes) -> "File":
+    def of(cls, identifier: bytes, blob: Blob) -> "File":
         """Returns the file that a blob's name stands for: what the blob lists, or else the blob itself. A bundle's
         member is never a list."""
         if len(identifier) == NAME and len(blob) > HEAD.size and not (len(blob) - HEAD.size) % NAME:
-            mark, length = HEAD.unpack_from(blob)
+            mark, length = HEAD.unpack(front_of(blob, HEAD.size))
             if mark == MARK and 0 < length <= LONGEST and (length - 1) // PIECE == (len(blob) - HEAD.size) // NAME - 1:
+                if isinstance(blob, Away):
+                    return cls(length, Span(blob, HEAD.size))
                 return cls(length, memoryview(blob)[HEAD.size :])  # noqa: E203
         return cls(len(blob), identifier)
 
@@ -61,7 +65,7 @@ class File:
             yield bytes(self.names[at:behind]), size, max(start - before, 0), min(end - before, size)
 
     def listed(self) -> bytes:
-        return HEAD.pack(MARK, self.length) + self.names
+        return HEAD.pack(MARK, self.length) + self.names[:]
 
 
 class Writer:
@@ -72,7 +76,7 @@ class Writer:
         self.network, self.memory, self.turns, self.reserve = network, memory, Fair(turns), reserve
         self.giving = set["asyncio.Task[None]"]()  # memory back, once late nodes do not need it any more
 
-    async def store(self, stream: AsyncIterator[bytes], epochs: int, stored: Optional[list[bytes]] = None) -> Told:
+    async def store(self, stream: AsyncIterator[Data], epochs: int, stored: Optional[list[bytes]] = None) -> Told:
         """Stores a file for a number of epochs, and returns the JSON of the answer. One piece arrives while one is
         encoded and others are certified. Whether or not all succeed, those that are certified are added to `stored`."""
         ledger = self.network.ledger
@@ -82,7 +86,7 @@ class Writer:
         try:
             async with contextlib.aclosing(pieces.split(stream, PIECE, self.reserve)) as parts:
                 async for piece in parts:
-                    first, size = first or bytes(piece[: len(MARK)]), size + len(piece)
+                    first, size = first or front_of(piece, len(MARK)), size + len(piece)
                     if len(tasks) >= AHEAD:
                         await tasks[-AHEAD]
                     tasks.append(asyncio.create_task(self.store_blob(piece, until)))
@@ -133,13 +137,10 @@ class Writer:
         bundle, members = await self.bundle(*await self.gather(kind, stream))
         count(len(bundle))
 
-        async def whole() -> AsyncIterator[bytes]:
-            yield bundle
-
-        told = await self.store(whole(), epochs, stored)
+        told = await self.store(pieces.parts_of(bundle), epochs, stored)
         return told | {"members": [{"id": f"{told['blobId']}/{it}", **member} for it, member in enumerate(members)]}
 
-    async def gather(self, kind: str, stream: AsyncIterator[bytes]) -> tuple[bytes, list[Told]]:
+    async def gather(self, kind: str, stream: AsyncIterator[bytes]) -> tuple[Blob, list[Told]]:
         """Returns the files of a form, concatenated (in a file without a name, if long), and what to tell of each."""
         most, spool, members = 2 * self.network.ledger.faults, pieces.Spool(self.reserve), list[Told]()
         try:
@@ -156,27 +157,28 @@ class Writer:
         finally:
             spool.close()
 
-    async def bundle(self, data: bytes, members: list[Told]) -> tuple[bytes, list[Told]]:
-        """Returns the bundle of these files, as a mapped file without a name, and `members` unchanged: a caller that
-        takes both from `gather` keeps no reference to `data`."""
+    async def bundle(self, data: Blob, members: list[Told]) -> tuple[Blob, list[Told]]:
+        """Returns the bundle of these files, in a file without a name, and `members` unchanged: a caller that takes
+        both from `gather` keeps no reference to `data`."""
         faults, ends = self.network.ledger.faults, itertools.accumulate(it["size"] for it in members)
-        files = [memoryview(data)[end - it["size"] : end] for end, it in zip(ends, members)]  # noqa: E203
         async with self.memory.share(pieces.need_of(len(data), faults)):
+            whole = memoryview(await pieces.in_memory(data))
+            files = [whole[end - it["size"] : end] for end, it in zip(ends, members)]  # noqa: E203
             try:
                 async with self.turns.place(ASKING.get()):
                     made = await bundles.join(files, faults, self.network.walrus)
             except client.Refused as refused:
                 raise Problem(413, UNFIT) if refused.code in codes.DO_NOT_FIT else refused from None
-            return await pieces.in_thread(pieces.put_away, made), members
+            return await to_the_end(put_away, made), members
 
-    async def store_blob(self, blob: bytes, until: int) -> tuple[bytes, bool]:
+    async def store_blob(self, blob: Blob, until: int) -> tuple[bytes, bool]:
         """Stores a blob. Returns its identifier, and whether it was certified for as long before. Its memory is given
         back once no late node needs it."""
         stack, identifier, faults = contextlib.AsyncExitStack(), b"", self.network.ledger.faults
         share = await stack.enter_async_context(self.memory.share(pieces.need_of(len(blob), faults)))
         try:
             async with self.turns.place(ASKING.get()):
-                encoded = await self.network.walrus.encode(blob, faults)
+                encoded = await self.network.walrus.encode(await pieces.in_memory(blob), faults)
             del blob
             share.shrink(sum(len(part) for parts in encoded.slivers for part in parts))
             identifier = encoded.identifier

@@ -34,6 +34,7 @@ COMPLETION = """_walrus_net() {
 complete -o filenames -F _walrus_net walrus-net"""
 
 
+CHECKED = {"checked": ["blobId"], "unchecked": ["endEpoch", "certificate"]}  # of the answer to a store
 FAULTS = Failure, client.Failed, Refused, Unreachable, aiohttp.ClientError, OSError, ValueError, RuntimeError
 
 
@@ -45,6 +46,11 @@ def tell_blob(told: dict[str, Any]) -> str:
     more += [f"{it}: {text}" for it, text in names.items() if text]
     until = f"{told['endEpoch']} ({told['ends']})" if told.get("ends") else told["endEpoch"]
     return clean(", ".join([f"{told['blobId']} until epoch {until}", state, *more]))
+
+
+def tell_stored(told: dict[str, Any]) -> str:
+    """Says of what was stored also what was checked: the gateway may lie, and show no certificate."""
+    return f"{tell_blob(told)} (checked here: the identifier; all else is the gateway's word)"
 
 
 def tell_figures(told: dict[str, dict[str, float]]) -> list[str]:
@@ -87,15 +93,15 @@ def tell(words: argparse.Namespace, told: dict[str, Any], text: str) -> None:
 
 async def run_store(words: argparse.Namespace, session: aiohttp.ClientSession) -> None:
     if words.bundle:
-        told = await store_bundle(session, words.file, words.epochs)
+        told = {**await store_bundle(session, words.file, words.epochs), **CHECKED}
         members = [clean(f"{it['id']} {it['name']}") for it in told["members"]]
-        tell(words, told, "\n".join([tell_blob(told), *members]))
+        tell(words, told, "\n".join([tell_stored(told), *members]))
         return
     for path in words.file:
         way = store_folder if os.path.isdir(path) else store if os.path.isfile(path) else store_piped
         way = store_piped if path == "-" else way  # a file of that name is ./-
-        told = {"file": path, **await way(session, path, words.epochs)}
-        tell(words, told, f"{tell_blob(told)} {path}")
+        told = {"file": path, **await way(session, path, words.epochs), **CHECKED}
+        tell(words, told, f"{tell_stored(told)} {path}")
 
 
 async def run_fetch(words: argparse.Namespace, session: aiohttp.ClientSession) -> None:

@@ -8,7 +8,9 @@ from typing import Optional
 from aiohttp import web
 
 from .problems import Problem
+from .sealed import Away, Blob
 
+READ = 262_144  # bytes of a file that are read at once
 FORMS = {"Repr-Digest": r"sha-256=:([A-Za-z0-9+/=]{44}):", "Digest": r"sha-256=([A-Za-z0-9+/=]{44})"}
 
 WANTED = "Want-Repr-Digest", "Want-Digest"
@@ -52,5 +54,11 @@ def fields(digest: bytes) -> dict[str, str]:
     return {"Repr-Digest": f"sha-256=:{text}:", "Digest": f"sha-256={text}"}
 
 
-def sum_of(data: bytes) -> bytes:
-    return hashlib.sha256(data).digest()
+def sum_of(blob: Blob) -> bytes:
+    """Returns the SHA-256 of a blob; blocks. Raises `Damaged` if it is in a file, which cannot be read."""
+    if not isinstance(blob, Away):
+        return hashlib.sha256(blob).digest()
+    found = hashlib.sha256()
+    for place in range(0, len(blob), READ):
+        found.update(blob.read(place, min(place + READ, len(blob))))
+    return found.digest()

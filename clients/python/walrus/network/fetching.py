@@ -7,13 +7,14 @@ from typing import IO, Any, Coroutine, Iterator
 
 import aiohttp
 
+from .bar import Bar
 from .checked import Naming, is_named, written_whole
 from .chunks import PIECE
 from .groups import several
 from .manifest import MARK, MOST_BYTES, Manifest, Place, Wrong, shown
 from .partial import beside
 from .places import Root, is_equal
-from .transfers import BY_STATUS, PART, Bar, Failure, fetch, naming_of, parts_of, receive
+from .transfers import BY_STATUS, PART, Failure, fetch, naming_of, parts_of, receive
 from .trees import WIDTH
 
 

@@ -10,13 +10,15 @@ from typing import Any, AsyncIterator, Optional, Union
 from aiohttp import web
 
 from .chunks import LONGEST, File, Told
+from .conditions import condition
 from .gathering import AT_ONCE, Costs, Storing, Upload
 from .guard import SAFE
 from .manifest import Manifest, Place, Wrong, as_path, kind_told, label_of, shown
-from .pieces import put_away
 from .problems import JSON, Problem
 from .publishing import Publisher, named
-from .reading import FOREVER, SLICE, Reader, send_text
+from .reading import FOREVER, Reader, send_text
+from .sealed import Blob, put_away
+from .sending import SLICE
 from .shelf import LISTS, Shelf
 from .turns import Turns, owner_of
 
@@ -117,27 +119,27 @@ class Folders:
         return await self.answer(request, request["site"], request.rel_url.raw_path.removeprefix("/"), OWN_HOST)
 
     async def answer(self, request: web.Request, name: bytes, raw: str, headers: dict[str, str]) -> web.StreamResponse:
-        manifest = await self.shelf.manifest(name)
+        await self.shelf.manifest(name)
         try:
             path = urllib.parse.unquote_to_bytes(raw).decode()
         except UnicodeDecodeError:
             raise Problem(404, "the folder has no such file: its names are UTF-8") from None
         is_folder = not path or path.endswith("/")
-        if place := manifest.find(f"{path}index.html" if is_folder else path):
-            del manifest  # it may be long: a client that reads slowly must not keep it in memory
+        place, has_folder = await self.shelf.look(name, lambda it: find(it, path, is_folder))
+        if place:  # the manifest may be long: a client that reads slowly does not keep it in memory
             return await self.send(request, place, headers)
-        if is_folder and manifest.has(path):
+        if is_folder and has_folder:
             accepted = ",".join(request.headers.getall("Accept", []))
             is_json = "application/json" in accepted and "text/html" not in accepted
             headers = {**headers, **(JSON if is_json else HTML), "Cache-Control": "no-cache", "Vary": "Accept"}
             owner = owner_of(request)
             async with self.reader.sendings.take(owner):  # a long list is on disk until it is sent, as a piece is
                 async with self.listings.take(owner):  # making a list takes a while, beside other requests
-                    run = asyncio.get_running_loop().run_in_executor
+                    run, manifest = asyncio.get_running_loop().run_in_executor, await self.shelf.manifest(name)
                     text = await run(LISTS, listing, name, manifest, path, is_json)
-                del manifest
+                    del manifest
                 return await send_text(request, text, headers)
-        if manifest.has(f"{path}/") and not is_folder:
+        if has_folder:
             return moved(raw.rpartition("/")[2], request)
         raise Problem(404, "the folder has no such file")
 
@@ -145,11 +147,17 @@ class Folders:
         at = "" if place.offset is None else f"/{place.offset}-{place.length}"
         tag, charset = f'"{place.file.hex()}{at}"', "; charset=utf-8" if place.kind.startswith("text/") else ""
         headers = {**FOREVER, **headers, "ETag": tag}
-        if (found := self.reader.condition(request, tag, headers)) is not None:
+        if (found := condition(request, tag, headers)) is not None:
             return found
         is_head = request.method == "HEAD"  # HEAD needs only what the manifest has
         file = File(place.length, b"") if is_head else await self.shelf.file(place)
         return await self.reader.give(request, file, tag, headers, place.kind + charset)
+
+
+def find(manifest: Manifest, path: str, is_folder: bool) -> tuple[Optional[Place], bool]:
+    """Returns the file of a path, or of the page of a folder, if there is one; else whether the path is a folder's."""
+    place = manifest.find(f"{path}index.html" if is_folder else path)
+    return place, not place and manifest.has(path if is_folder else f"{path}/")
 
 
 def moved(name: str, request: web.Request) -> web.Response:
@@ -159,9 +167,9 @@ def moved(name: str, request: web.Request) -> web.Response:
     return web.Response(status=301, headers={**SANDBOX, "Location": place, "Cache-Control": "public, max-age=86400"})
 
 
-def listing(name: bytes, manifest: Manifest, folder: str, is_json: bool) -> bytes:
-    """Returns the contents of a folder as JSON or as a page. A long result is a mapped file without a name, as names of
-    a manifest may take nine times their bytes here."""
+def listing(name: bytes, manifest: Manifest, folder: str, is_json: bool) -> Blob:
+    """Returns the contents of a folder as JSON or as a page. A long result is in a file without a name, as names of a
+    manifest may take nine times their bytes here."""
     lines, size, is_whole = list[bytes](), 0, True
     for it in manifest.within(folder):
         line = (json.dumps(entry(it, folder)) if is_json else row(it, folder)).encode()

@@ -8,7 +8,7 @@ import pathlib
 import shutil
 from typing import Any, Iterable, Optional, Sequence
 
-from . import TOP, certificates
+from . import TOP, certificates, private
 from .checked import written_whole
 from .entries import HOST, LONGEST, MOST_FAULTS, OPERATOR, entry_key
 from .machine import AUTHORITY, ETCD_AUTHORITY, KEPT, Machine, Place, Unfounded, can_be_named
@@ -89,7 +89,7 @@ class Founding:
         """Makes a folder with the authorities. It counts as a network once the plan is saved."""
         if (folder / PLAN).exists():
             raise Unfounded(f"{folder} has a network already")
-        folder.mkdir(parents=True, mode=0o700, exist_ok=True)
+        private.make_folder(folder)
         for name in (AUTHORITY, ETCD_AUTHORITY):
             certificates.make_authority(folder / name, days)
         return cls(folder, {**plan, "hosts": {}})

@@ -13,10 +13,12 @@ from typing import Any, Awaitable, Callable, Optional, Union
 from aiohttp import hdrs, web
 from .. import client
 
-from . import certificates
+from . import certificates, private
 from .access import CommonLog, log_to
 from .announcing import Announcer
+from .chunks import File
 from .client import Access, Network
+from .conditions import condition
 from .connections import Certificate, Counted, Server
 from .exposure import Options
 from .folders import PATHS, Folders
@@ -27,7 +29,7 @@ from .notify import ready
 from .page import Watch
 from .problems import ALONE, FRESH, JSON, Problem, as_json, ledger_away, problem_of
 from .publishing import Publisher, expected, named
-from .reading import Reader, send_text
+from .reading import FOREVER, Reader, send_text
 from .shelf import Shelf
 from .sorting import Sorter
 from .times import HEADERS, Times
@@ -55,6 +57,7 @@ RESTING = (
     "/v1/blobs",
     "/v1/bundles",
     "/v1/folders",
+    "/v1/lists/",
     "/v1/uploads",
     "/v1/extend",
     "/v1/challenges",
@@ -116,6 +119,7 @@ class Gateway(Server):
         app.add_routes([web.put("/v1/blobs/{name}", publisher.extend), web.post("/v1/extend/{name}", publisher.extend)])
         app.add_routes([web.get("/v1/blobs", self.lister.list), web.get("/v1/blobs/{name}", self.get_blob)])
         app.add_routes([web.get("/v1/bundles/{name}/{number}", self.get_blob)])
+        app.add_routes([web.get("/v1/lists/{name}", self.get_list)])
         app.add_routes([web.put("/v1/folders", self.folders.put, expect_handler=expected)])
         app.add_routes([web.get("/v1/folders/{name}", self.folders.get)])
         app.add_routes([web.get("/v1/folders/{name}/{path:.*}", self.folders.get)])
@@ -177,6 +181,21 @@ class Gateway(Server):
 
     async def get_blob(self, request: web.Request) -> web.StreamResponse:
         return await self.reader.answer(request, named(request))
+
+    async def get_list(self, request: web.Request) -> web.StreamResponse:
+        """Sends the list of a file's pieces, as its blob has it: a client checks it by the identifier, which so commits
+        to the file's length and pieces."""
+        name = named(request)
+        self.reader.must_stand(name)
+        async with self.reader.blob(name) as blob:
+            file, size = File.of(name, blob), len(blob)
+        if file.names == name:
+            raise Problem(404, "the file is one blob, and has no list of pieces: read it under /v1/blobs")
+        tag = f'"{name.hex()}/list"'
+        headers = {**ALONE, **FOREVER, "ETag": tag}
+        if (found := condition(request, tag, headers)) is not None:
+            return found
+        return await self.reader.give(request, File(size, name), tag, headers)
 
     async def status(self, request: web.Request) -> web.StreamResponse:
         return await send_text(request, self.watch.status_text(), FRESH | JSON)
@@ -251,10 +270,13 @@ async def serve(
 ) -> int:
     """Runs a gateway until `told` is set, and returns 0. Raises if it can no longer follow the ledger or ask nodes."""
     keep_buffers()
+    access = access if isinstance(access, Access) else Access.within(access, "publisher")
+    private.begin(access.state)
     gc.freeze()
     gc.set_threshold(2_000)  # the default of 700 objects costs a tenth of its processor time when many store at once
     async with Network(access, seconds=options.patience, kept=True) as network:
         gateway = Gateway(network, network.authority.parent, options)
+        private.close_database(str(gateway.publisher.used))
         try:
             port = await gateway.listen(host, port)
             scheme = "https" if gateway.certificate else "http"

@@ -4,7 +4,6 @@ import asyncio
 import contextlib
 import copy
 import hashlib
-import os
 import sqlite3
 from typing import Any, AsyncIterator, Coroutine, Iterator
 
@@ -18,6 +17,7 @@ from .packing import SMALL, WRITTEN, Folder
 from .problems import Problem
 from .shares import Charge, count_of
 from .source import Source
+from .threads import in_thread
 
 AT_ONCE, AHEAD = 16, 4  # folders received at once; files and packs of one folder that are stored at once
 FULL = (
@@ -106,6 +106,7 @@ class Storing:
 class Spool(pieces.Spool):
     """Holds the bytes of a folder as they arrive."""
 
+    chunk = 65_536  # small files are read one by one
     full = FULL
 
     def cut(self, end: int) -> None:
@@ -114,14 +115,16 @@ class Spool(pieces.Spool):
         self.start = min(self.start, end)
 
     async def read(self, *spans: tuple[int, int]) -> bytes:
-        """Returns the bytes at these (length, offset) spans, concatenated; `flush` must have written them."""
+        """Returns the bytes at these (length, offset) spans, concatenated; `flush` must have written them. They are
+        read in the order of the file, so that each chunk of it is read and checked once."""
 
         def read() -> bytes:
             with self.turn:
-                assert self.file
-                return b"".join(os.pread(self.file.fileno(), length, at) for length, at in spans)
+                assert self.file is not None
+                found = {at: self.file.peek(at, at + length) for length, at in sorted(spans, key=lambda it: it[1])}
+                return b"".join(found[at] for _, at in spans)
 
-        return await pieces.in_thread(read)
+        return await in_thread(read)
 
 
 class Upload(Storing):

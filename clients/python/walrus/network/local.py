@@ -13,14 +13,17 @@ from typing import Any, Mapping, Optional, Sequence
 
 from . import TOP, certificates
 from .client import Network
+from .configuration import values_of
 from .founding import PLAN
 from .groups import all_of
 from .ledger import OPERATOR
 from .machine import AUTHORITY, ETCD_AUTHORITY, Machine, Place
+from .ports import must_be_free
 
 LONGEST_START = 600  # seconds until a process must listen; a node checks its pages before
 TRIM = {"MALLOC_MMAP_THRESHOLD_": "65536", "GLIBC_TUNABLES": "glibc.malloc.hugetlb=1"}  # the same as in walrus-net
 HOST = "127.0.0.1"
+ENDS_WITH_PARENT = "setpriv", "--pdeathsig", "TERM", "--"  # of util-linux; the thread that starts it is the main one
 
 
 def find_program() -> str:
@@ -54,7 +57,8 @@ class Local:
         self.sides, self.faults = ((), ()), 1  # type: tuple[tuple[str, ...], tuple[str, ...]], int
 
     async def spawn(self, name: str, *words: str, **options: object) -> asyncio.subprocess.Process:
-        """Starts a process that ends with the network; its output goes to NAME.log."""
+        """Starts a process that ends with the network, also if this process is killed; its output goes to NAME.log."""
+        words = (*ENDS_WITH_PARENT, *words) if shutil.which(ENDS_WITH_PARENT[0]) else words
         with open(self.folder / f"{name}.log", "ab") as log:
             quiet = {"stdin": subprocess.DEVNULL, "stdout": log, "stderr": log, "cwd": self.folder, **options}
             self.processes[name] = await asyncio.create_subprocess_exec(*words, **quiet)  # type: ignore[arg-type]
@@ -123,6 +127,8 @@ class Local:
 
     async def start_etcd(self, name: str = "etcd") -> None:
         """Starts a member of etcd with the variables in its file NAME.env."""
+        for url in self.told()["etcd"][name]:
+            must_be_free(name, HOST, int(url.rpartition(":")[2]))
         lines = (self.folder / f"{name}.env").read_text().splitlines()
         environment = {**os.environ, **dict(line.split("=", 1) for line in lines)}
         await self.spawn(name, "etcd", "--key-file=etcd.key", "--peer-key-file=etcd.key", env=environment)
@@ -154,6 +160,7 @@ class Local:
         before = log.stat().st_size if log.exists() else 0
         path = os.pathsep.join([str(TOP / "clients" / "python"), os.environ.get("PYTHONPATH", "")])
         settings = str(self.folder / f"{name}.toml")
+        must_be_free(name, HOST, values_of(self.folder / f"{name}.toml").get("port", 0))
         process = await self.spawn(
             name, *words, settings, env={**os.environ, **TRIM, "PYTHONPATH": path, **environment}
         )

@@ -9,6 +9,7 @@ import re
 from typing import Iterable, Iterator, NamedTuple, Optional, Union
 
 from .chunks import LONGEST, PIECE
+from .sealed import Away, Blob, Sealed, front_of
 
 MARK = b"\x00walrus folder\x00\x01"
 MOST_FILES, MOST_BYTES = 262_144, 67_108_864  # most files of a folder; most bytes of a manifest
@@ -64,6 +65,7 @@ TYPE = rb"[a-z0-9][a-z0-9!#$&^_.+-]{0,63}/[a-z0-9][a-z0-9!#$&^_.+-]{0,63}"
 NUMBER = rb"0|[1-9][0-9]{0,12}"
 LINE = re.compile(rb"((?:%s/)*%s)\t(%s)\t(%s)\t(?:-|([0-9a-f]{64})(?:@(%s))?)\n" % (NAME, NAME, TYPE, NUMBER, NUMBER))
 MOST_LINE = 1_400  # most bytes of a line: without a bound, the match would run through an endless path
+WINDOW = 1_048_576  # bytes of a manifest that are read at once while it is checked
 CONTROLS = re.compile("[\x00-\x1f\x7f-\x9f]")  # LINE excludes those of one byte already
 
 
@@ -147,18 +149,21 @@ def label_of(name: bytes) -> str:
 
 
 class Manifest:
-    """A manifest that was read and checked. `data` is its bytes, which may be a mapped file."""
+    """A manifest that was read and checked. `data` is its bytes, which may be in a file."""
 
-    def __init__(self, data: Union[bytes, memoryview]):
+    def __init__(self, data: Blob):
         """Checks all lines; raises `Wrong` for the first fault."""
-        self.data, self.starts = memoryview(data), array.array("I")
-        if bytes(self.data[: len(MARK)]) != MARK:
+        self.data, self.starts = data, array.array("I")
+        if front_of(data, len(MARK)) != MARK:
             raise Foreign("it does not begin as a manifest does")
         if len(data) > MOST_BYTES:
             raise Wrong(f"it has more than {MOST_BYTES} bytes")
         before, above, end = b"", dict[bytes, None](), len(MARK)  # the previous path; files that are its prefixes
-        while end < len(self.data):
-            found = LINE.match(self.data, end, end + MOST_LINE)
+        at, window = 0, b""  # bytes that are in memory, and where they begin
+        while end < len(data):
+            if end + MOST_LINE > at + len(window) < len(data):
+                at, window = end, self.window(end, min(end + WINDOW, len(data)))
+            found = LINE.match(window, end - at, end - at + MOST_LINE)
             if not found or len(self.starts) == MOST_FILES:
                 raise Wrong(f"line {len(self.starts) + 1} is malformed, or one too many")
             path = found[1]
@@ -167,7 +172,20 @@ class Manifest:
             check(before, path, above, found)
             above[path] = None
             self.starts.append(end)
-            before, end = path, found.end()
+            before, end = path, at + found.end()
+
+    def window(self, start: int, end: int) -> bytes:
+        """Returns a long part of the bytes, of which nothing stays in memory."""
+        return bytes(self.data.read(start, end) if isinstance(self.data, Away) else self.data[start:end])
+
+    def span(self, start: int, end: int) -> bytes:
+        """Returns a part of the bytes, up to the last one."""
+        end = min(end, len(self.data))
+        return self.data.peek(start, end) if isinstance(self.data, Away) else bytes(self.data[start:end])
+
+    def is_damaged(self) -> bool:
+        """Whether the disk has given back something else than was read."""
+        return isinstance(self.data, Sealed) and self.data.is_damaged
 
     def __len__(self) -> int:
         return len(self.starts)
@@ -176,7 +194,7 @@ class Manifest:
         return map(self.at, range(len(self)))
 
     def at(self, number: int) -> Place:
-        found = LINE.match(self.data, self.starts[number])
+        found = LINE.match(self.span(self.starts[number], self.starts[number] + MOST_LINE))
         assert found
         path, kind, length, file, offset = found.groups()
         name = bytes.fromhex((file or b"").decode())
@@ -186,13 +204,13 @@ class Manifest:
         """Returns the number of the first line that does not sort before a text."""
 
         def front(start: int) -> bytes:
-            return bytes(self.data[start : start + len(text)])  # noqa: E203
+            return self.span(start, start + len(text))
 
         return bisect.bisect_left(self.starts, text, key=front)
 
     def starts_with(self, number: int, text: bytes) -> bool:
         start = self.starts[number] if number < len(self) else len(self.data)
-        return bytes(self.data[start : start + len(text)]) == text  # noqa: E203
+        return self.span(start, start + len(text)) == text
 
     def find(self, path: str) -> Optional[Place]:
         """Returns the file at a path, or None."""

@@ -14,7 +14,7 @@ from ..envelopes import parts
 from ..frames import answer, code_of, joined
 from ..port import PIECE, Bounds, Said
 
-from . import certificates, handover
+from . import certificates, handover, private
 from .figures import NodePort
 from .follower import AWAY, Recorders, Refused, Unreachable, View
 from .groups import first_of
@@ -269,6 +269,7 @@ async def serve(settings: Settings, kind: type[Node] = Node) -> int:
     """Run a node until a signal ends it, or a fault; return the exit status."""
     node, end = None, "cannot start"  # type: Optional[Node], str
     try:
+        private.begin(settings.database)
         node = kind(settings)
         port = await node.open()
         for number in (signal.SIGINT, signal.SIGTERM):

@@ -1,34 +1,27 @@
 """The pieces of files that are received or sent, and the memory of a gateway.
 
-A piece that arrives slowly takes hardly any memory: all but a little goes to a file without a name, which is mapped
-once it is the piece's turn. A piece that was read is kept in such a file, too, until it is sent."""
+A piece that arrives slowly takes hardly any memory: all but a little goes to a file without a name, which is read once
+it is the piece's turn. A piece that was read is kept in such a file, too, until it is sent."""
 import asyncio
-import concurrent.futures
 import contextlib
 import dataclasses
-import mmap
 import os
 import pathlib
-import tempfile
 import threading
-from typing import IO, Any, AsyncGenerator, AsyncIterator, Callable, Optional, TypeVar, Union
+from typing import IO, Any, AsyncGenerator, AsyncIterator, Optional, Union
 
 from ..fairness import Line
 
 from .problems import Problem
+from .sealed import CHUNK, Away, Blob, Data, Sealed
+from .threads import DISK, in_thread, to_the_end
 from .turns import ASKING
 
-AHEAD, THREADS = 131_072, 4  # bytes of a piece that stay in memory while it arrives; threads that write and read files
-DISK = concurrent.futures.ThreadPoolExecutor(THREADS, "spool")  # in asyncio's own, name look-ups may take long
+AHEAD = 131_072  # bytes of a piece that stay in memory while it arrives
 LEAST, LATER = 1_048_576, 3.25  # bytes that any piece takes; further memory to decode one, in multiples of its length
 TIMES, MORE = 8, 11  # memory to encode a piece, in multiples of its length, at f = 1 and above
 FULL = "not all of it is stored: the gateway has too little room on its disk for it; send it again later"
 PATIENCE = 1.0  # seconds for which a request for memory waits before reads may pass it, and late tasks are cancelled
-Result = TypeVar("Result")
-
-
-class Mapped(mmap.mmap):
-    """A mapped file: parts of its memory may be given back at any time, as they can be read from the file again."""
 
 
 def write(file: IO[bytes], data: memoryview) -> None:
@@ -51,31 +44,37 @@ def must_fit(place: Union[int, pathlib.Path], size: int, reserve: float, full: s
         raise Problem(507, full)
 
 
-async def in_thread(call: Callable[..., Result], *words: Any) -> Result:
-    """Runs a call that may wait for the disk in a thread, and returns its result."""
-    return await asyncio.get_running_loop().run_in_executor(DISK, call, *words)
+async def part_of(blob: Blob, start: int, end: int) -> Union[bytes, memoryview]:
+    """Returns a span of a blob; raises `Damaged` if it is in a file, and the disk gives back something else. A thread
+    reads it only if the system does not have it in memory: to go there and back takes as long as to read 256 KiB."""
+    if not isinstance(blob, Away):
+        return memoryview(blob)[start:end]
+    found = blob.at_once(start, end) if isinstance(blob, Sealed) and start < end else None
+    return await in_thread(blob.read, start, end) if found is None else found
 
 
-async def to_the_end(call: Callable[..., Result], *words: Any) -> Result:
-    """Like `in_thread`, but if the caller is cancelled meanwhile, the call still ends before that is raised."""
-    running = asyncio.ensure_future(in_thread(call, *words))
-    try:
-        return await asyncio.shield(running)
-    except asyncio.CancelledError:
-        await asyncio.wait([running])
-        raise
+async def parts_of(blob: Blob, start: int = 0) -> AsyncIterator[Union[bytes, memoryview]]:
+    """Yields a blob from a byte on in parts; raises as `part_of` does."""
+    for place in range(start, len(blob), AHEAD):
+        yield await part_of(blob, place, min(place + AHEAD, len(blob)))
+
+
+async def in_memory(blob: Blob) -> Union[bytes, memoryview]:
+    """Returns all of a blob in memory; raises as `part_of` does."""
+    return await to_the_end(blob.read, 0, len(blob)) if isinstance(blob, Away) else blob
 
 
 class Spool:
     """Data that arrives: the end of it is in memory, and all before that in a file without a name. Threads write and
     read the file, so that a busy disk holds up nobody else. `reserve` is the fraction of the disk that stays free."""
 
+    chunk = CHUNK  # bytes of the file that are read, and checked, together
     full = FULL  # the text of the error if less than that would stay free
 
     def __init__(self, reserve: float = 0.0) -> None:
         self.reserve = reserve
         self.kept, self.start = bytearray(), 0  # data in memory, and the number of bytes before it
-        self.file: Optional[IO[bytes]] = None  # made by the first thread that writes
+        self.file: Optional[Sealed] = None  # made by the first thread that writes
         self.turn, self.is_away = threading.RLock(), False  # guards the file; whether any data went to it
 
     @property
@@ -100,42 +99,37 @@ class Spool:
         self.kept, self.start, self.is_away = bytearray(), self.end, True
         return kept, place
 
-    def write(self, place: int, *parts: Union[bytes, bytearray, memoryview]) -> IO[bytes]:
+    def write(self, place: int, *parts: Data) -> Sealed:
         with self.turn:
-            self.file = self.file or tempfile.TemporaryFile(buffering=0)
-            must_fit(self.file.fileno(), sum(map(len, parts)), self.reserve, self.full)
-            for part in parts:
-                view = memoryview(part)
-                while view:
-                    written = os.pwrite(self.file.fileno(), view, place)
-                    view, place = view[written:], place + written
+            if self.file is None:
+                self.file = Sealed(self.chunk)
+            must_fit(self.file.file, sum(map(len, parts)), self.reserve, self.full)
+            if place < len(self.file):
+                self.file.cut(place)
+            self.file.add(b"".join(parts))
             return self.file
 
-    async def whole(self) -> bytes:
-        """Returns all data that arrived, as a map of the file if a part is there. May be called only once."""
+    async def whole(self) -> Blob:
+        """Returns all data that arrived, in its file if a part is there. May be called only once."""
         if not self.is_away:
             return bytes(self.kept)
         kept, place = self.taken()
-        return await in_thread(self.mapped, place, kept)
-
-    def mapped(self, place: int, kept: bytearray) -> bytes:
-        with self.turn, self.write(place, kept) as file:
-            return memoryview(Mapped(file.fileno(), self.start, access=mmap.ACCESS_READ))
+        file, self.file = await in_thread(self.write, place, kept), None
+        return file
 
     def close(self) -> None:
-        """Closes the file once no thread uses it: its descriptor may be another file's from then on."""
+        """Drops the file once no thread uses it, in a thread: to free the room of a long one takes a while."""
         if self.is_away:
-            DISK.submit(self.end_file)
+            DISK.submit(self.drop)
 
-    def end_file(self) -> None:
+    def drop(self) -> None:
         with self.turn:
-            if self.file:
-                self.file.close()
+            self.file = None
 
 
-async def split(stream: AsyncIterator[bytes], size: int, reserve: float = 0.0) -> AsyncGenerator[bytes, None]:
+async def split(stream: AsyncIterator[Data], size: int, reserve: float = 0.0) -> AsyncGenerator[Blob, None]:
     """Yields the pieces, of `size` bytes, of a file that arrives in parts of any length; one at least, maybe empty."""
-    spool, full = Spool(reserve), list[bytes]()
+    spool, full = Spool(reserve), list[Blob]()
     try:
         async for part in stream:
             view = memoryview(part)
@@ -149,25 +143,6 @@ async def split(stream: AsyncIterator[bytes], size: int, reserve: float = 0.0) -
         yield await spool.whole()
     finally:
         spool.close()
-
-
-def put_away(blob: bytes) -> bytes:
-    """Returns a blob as a map of a file without a name."""
-    with tempfile.TemporaryFile(buffering=0) as file:
-        write(file, memoryview(blob))
-        return memoryview(Mapped(file.fileno(), len(blob), access=mmap.ACCESS_READ))
-
-
-def is_away(blob: bytes) -> bool:
-    """Whether a blob is a map of a file."""
-    return isinstance(blob, memoryview) and isinstance(blob.obj, Mapped)
-
-
-def let_go(blob: bytes, start: int, end: int) -> None:
-    """Gives back the memory of a span of a blob if it is in a file; does nothing otherwise."""
-    if isinstance(blob, memoryview) and isinstance(blob.obj, Mapped):
-        first = start // mmap.PAGESIZE * mmap.PAGESIZE
-        blob.obj.madvise(mmap.MADV_DONTNEED, first, end - first)
 
 
 class Share:

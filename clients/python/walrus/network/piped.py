@@ -8,11 +8,12 @@ from typing import IO, Any, AsyncIterator, Optional
 
 import aiohttp
 
+from .bar import Bar
 from .checked import Naming
 from .chunks import PIECE
 from .pieces import write
 from .resuming import Broken, Sending
-from .transfers import PART, Bar, Failure, must_name, naming_of, put
+from .transfers import PART, Failure, must_name, naming_of, put
 
 QUIET = 2.0  # seconds without a part after which a request ends: a gateway takes longer pauses for a broken client
 WINDOW = 4 * PIECE  # bytes that are kept at most until the gateway has them; fewer if the disk has no room for them

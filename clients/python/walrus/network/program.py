@@ -1,5 +1,5 @@
-"""The program walrus for a gateway, or the library if it is installed. Calls run in threads, beside the event loop."""
-import asyncio
+"""The program walrus for a gateway, or the library if it is installed. Calls run in threads, beside the event loop. One
+whose caller is cancelled still holds its turn, and the memory that its caller took for it, until its thread ends."""
 import concurrent.futures
 import contextlib
 import os
@@ -13,6 +13,7 @@ from ..client import Data
 from .. import wire
 
 from .judge import SHORT, engine_of
+from .threads import to_the_end
 
 
 class Calls(client.Walrus):
@@ -42,7 +43,7 @@ class Calls(client.Walrus):
             if self.few() and isinstance(self.engine, Library) and room_for(words, size) < SHORT:
                 status, text = self.call(words, data)
             else:
-                status, text = await asyncio.get_running_loop().run_in_executor(self.pool, self.call, words, data)
+                status, text = await to_the_end(self.call, words, data, pool=self.pool)
         return status, bytes(text) if status or len(text) < wire.LARGE else text
 
     def call(self, words: Sequence[object], data: Union[Data, Sequence[Data]]) -> tuple[int, memoryview]:

@@ -6,7 +6,7 @@ import itertools
 import secrets
 import sys
 import tempfile
-from typing import AsyncIterator, Callable, Iterable, Iterator, Optional, Union
+from typing import AsyncIterator, Awaitable, Callable, Iterable, Optional, TypeVar, Union
 
 from aiohttp import web
 from .. import client
@@ -15,20 +15,25 @@ from . import digests, ranges
 from .cache import Cache
 from .chunks import NAME, File
 from .client import Network
+from .conditions import condition
 from .exposure import Options
 from .heads import Lengths
 from .limits import Flow
-from .pieces import Memory, lack_at, let_go, put_away, reading_needs
+from .pieces import Memory, lack_at, part_of, reading_needs
 from .problems import ALONE, BAD, NO_BLOB, Problem
+from .sealed import Blob, Damaged, Sealed, put_away
+from .sending import PART, SLICE, Sending, ending_early
+from .threads import to_the_end
 from .turns import ASKING, PARTS, WAITING, Together, Turns, owner_of
 
-SLICE, KIND = 262_144, "application/octet-stream"
-PART = 65_536  # bytes of a text that are sent at once
+KIND = "application/octet-stream"
+PROMPT, TRIES = 1.0, 3  # seconds in which a client takes a part if it is not slow; readings of a blob on a bad disk
 BARE, READINGS = 73_400_320, 16  # bytes that an idle gateway takes; blobs that are read at once, if memory allows
 AHEAD, LOOK = 5, 1.0  # pieces of a file that are read at once for one client; seconds between two looks at the disk
 SILENCE, SUMS = 30.0, 65_536  # deadline in seconds to send a slice or receive anything; the most digests that are kept
 GRACE, LEAST = 60.0, 32_768  # seconds by which a client may lag, in all, behind LEAST bytes a second
 FOREVER = {"Cache-Control": "public, max-age=31536000, immutable", "Accept-Ranges": "bytes"}
+Result = TypeVar("Result")
 
 
 class Reader:
@@ -62,7 +67,7 @@ class Reader:
         ledger, identifier = self.network.ledger, name[:NAME]
         return bool(ledger.certificate(identifier)) and not ledger.invalid(identifier)
 
-    async def fetch(self, name: bytes, size: int) -> bytes:
+    async def fetch(self, name: bytes, size: int) -> Blob:
         """Reads a blob, or a member of it, from the network; a large one is returned in a file without a name. It takes
         memory for the largest blob. If that is short, nodes are asked for the length, unless `size` is the largest: a
         smaller one is only a claim."""
@@ -80,12 +85,11 @@ class Reader:
                 raise
             return await self.put_away(blob) if len(blob) > SLICE else blob
 
-    async def put_away(self, blob: bytes) -> bytes:
+    async def put_away(self, blob: bytes) -> Sealed:
         """Moves a blob to a file without a name, for which others that nobody uses give way if the disk is short."""
         await self.make_room(len(blob))
-        pool = self.network.walrus.pool  # not asyncio's own, in which name look-ups may take long
-        try:
-            return await asyncio.get_running_loop().run_in_executor(pool, put_away, blob)
+        try:  # not in asyncio's own threads, in which name look-ups may take long
+            return await to_the_end(put_away, blob, pool=self.network.walrus.pool)
         except OSError as fault:
             raise Problem(503, f"the gateway cannot put what is read on its disk ({fault}): try again later") from None
 
@@ -104,7 +108,7 @@ class Reader:
                 await self.make_room()
 
     @contextlib.asynccontextmanager
-    async def blob(self, identifier: bytes, size: Optional[int] = None) -> AsyncIterator[bytes]:
+    async def blob(self, identifier: bytes, size: Optional[int] = None) -> AsyncIterator[Blob]:
         """Holds a blob in the cache while the context runs. Raises `Problem` if it has another length than `size`."""
         self.must_stand(identifier)
         async with contextlib.AsyncExitStack() as stack:
@@ -116,13 +120,28 @@ class Reader:
                 raise Problem(410, "the file's list is false: one of its pieces has another length", invalid=True)
             yield found
 
+    async def within(
+        self, name: bytes, work: Callable[[Blob], Awaitable[Result]], size: Optional[int] = None
+    ) -> Result:
+        """Returns what `work` returns for a blob. If the disk gives back something else than was read, the blob is read
+        from the network anew, and `work` called again. Raises `Damaged` if that does not help, and as `blob` does."""
+        for left in reversed(range(TRIES)):
+            async with self.blob(name, size) as blob:
+                try:
+                    return await work(blob)
+                except Damaged as fault:
+                    print(f"{name[:NAME].hex()} is read anew: {fault}", file=sys.stderr, flush=True)
+                    if not left:
+                        raise
+        raise AssertionError
+
     async def answer(self, request: web.Request, name: bytes) -> web.StreamResponse:
         """Answers a GET or a HEAD of a file."""
         self.must_stand(name)
         number = f"/{int.from_bytes(name[NAME:], 'big')}" if name[NAME:] else ""
         tag = f'"{name[:NAME].hex()}{number}"'
         headers = {**ALONE, **FOREVER, "ETag": tag}
-        if (found := self.condition(request, tag, headers)) is not None:
+        if (found := condition(request, tag, headers)) is not None:
             return found
         length = await self.length_alone(request, name)
         if length is not None:
@@ -130,28 +149,21 @@ class Reader:
         else:
             async with self.blob(name) as blob:
                 file = File.of(name, blob)
-                headers |= await self.digest(name, blob) if digests.wanted(request) and file.names == name else {}
+                del blob
+                headers |= await self.digest(name) if digests.wanted(request) and file.names == name else {}
         return await self.give(request, file, tag, headers)
 
-    async def digest(self, name: bytes, blob: bytes) -> dict[str, str]:
+    async def digest(self, name: bytes) -> dict[str, str]:
         """Returns the headers with a blob's SHA-256. It is computed once, in a thread, so that others need not wait."""
         found = self.sums.get(name)
         if found is None:
             pool = self.network.walrus.pool
-            found = await asyncio.get_running_loop().run_in_executor(pool, digests.sum_of, blob)
+            run = asyncio.get_running_loop().run_in_executor
+            found = await self.within(name, lambda blob: run(pool, digests.sum_of, blob))
             self.sums[name] = found
             if len(self.sums) > SUMS:
                 self.sums.popitem(last=False)
         return digests.fields(found)
-
-    def condition(self, request: web.Request, tag: str, headers: dict[str, str]) -> Optional[web.Response]:
-        """Returns 304 if `If-None-Match` names this tag, and None if the file is to be sent. Raises `Problem` (412) if
-        `If-Match` names only other tags."""
-        if "If-Match" in request.headers and not tagged(request.headers.getall("If-Match"), tag):
-            raise Problem(412, "the only tag of this file is its identifier", headers)
-        if tagged([it.replace("W/", "") for it in request.headers.getall("If-None-Match", [])], tag):
-            return web.Response(status=304, headers=headers)
-        return None
 
     async def give(
         self, request: web.Request, file: File, tag: str, headers: dict[str, str], kind: str = KIND
@@ -196,9 +208,9 @@ class Reader:
             await response.prepare(request)
             return response
         self.read_ahead(itertools.islice(file.pieces(*spans[0]), 1, AHEAD))
-        for name, length, _, _ in file.pieces(*spans[0]):  # the first piece must be read before the response begins
-            async with self.blob(name, length):
-                break
+        for name, length, start, end in file.pieces(*spans[0]):  # before the response begins, so that it can be refused
+            await self.within(name, lambda blob: part_of(blob, start, min(end, start + PART)), length)
+            break
         await response.prepare(request)
         pace = Pace(request.get("flow"))
         with ending_early(request):
@@ -234,13 +246,14 @@ class Reader:
         self.read_ahead(itertools.islice(file.pieces(*span), 1, AHEAD))
         following = itertools.islice(file.pieces(*span), AHEAD, None)
         for name, size, start, end in file.pieces(*span):
-            taking = self.together.take(owner, name, size <= SLICE)  # a slow client keeps its piece in the cache
-            async with taking, self.blob(name, size) as blob:
+            sending = Sending(self.write, pace, response, start, end)
+
+            async def send(blob: Blob, sending: Sending = sending) -> None:
                 self.read_ahead(itertools.islice(following, 1))
-                for place in range(start, end, SLICE):
-                    behind = min(place + SLICE, end)
-                    await self.write(pace, response, memoryview(blob)[place:behind])
-                    let_go(blob, place, behind)
+                await sending.send(blob)
+
+            async with self.together.take(owner, name, size <= SLICE):  # a slow client keeps its piece in the cache
+                await self.within(name, send, size)
 
     async def write(self, pace: "Pace", response: web.StreamResponse, data: Union[bytes, memoryview]) -> None:
         if data:
@@ -254,6 +267,7 @@ class Pace:
 
     def __init__(self, flow: Optional[Flow] = None) -> None:
         self.allowed, self.flow = GRACE, flow
+        self.is_prompt = False  # whether the client took at once what was sent last
 
     @contextlib.asynccontextmanager
     async def next(self, size: int = 0) -> AsyncIterator[None]:
@@ -262,37 +276,23 @@ class Pace:
         begun = clock()
         async with asyncio.timeout(min(SILENCE, self.allowed)):
             yield
+        self.is_prompt = clock() - begun < PROMPT
         self.allowed += size / LEAST - (clock() - begun)
         if self.flow and size:
             await self.flow.spend(size)
 
 
-@contextlib.contextmanager
-def ending_early(request: web.Request) -> Iterator[None]:
-    """Logs the error and ends the connection if a response that has begun cannot go on."""
-    try:
-        yield
-    except (Problem, client.Failed, TimeoutError, OSError) as fault:
-        print(f"GET {request.path} ends early: {fault or 'its reader is slow'}", file=sys.stderr, flush=True)
-        if request.transport:
-            request.transport.abort()
-
-
-async def send_text(request: web.Request, text: bytes, headers: dict[str, str]) -> web.StreamResponse:
+async def send_text(request: web.Request, text: Blob, headers: dict[str, str]) -> web.StreamResponse:
     """Sends a text that may be long, in parts. If it is in a file, or shared with others, a client that does not read
     holds no more memory than the parts that were sent last."""
     response = web.StreamResponse(headers={**headers, "Content-Length": str(len(text))})
+    part, place = await part_of(text, 0, min(PART, len(text))), 0  # before the response begins, so that it may fail
     await response.prepare(request)
     pace = Pace(request.get("flow"))
     with ending_early(request):
-        for place in range(0, len(text) if request.method == "GET" else 0, PART):
-            part = memoryview(text)[place : place + PART]  # noqa: E203
+        while part and request.method == "GET":
             async with pace.next(len(part)):
                 await response.write(part)
-            let_go(text, place, place + len(part))
+            place += len(part)
+            part = await part_of(text, place, min(place + PART, len(text)))
     return response
-
-
-def tagged(fields: Iterable[str], tag: str) -> bool:
-    """Whether a conditional header's values contain a tag, or `*` for any."""
-    return any(word.strip() in ("*", tag) for field in fields for word in field.split(","))

@@ -12,7 +12,7 @@ from typing import Any, AsyncIterator, Awaitable, Callable, Optional, Union
 
 from aiohttp import web
 
-from . import certificates
+from . import certificates, private
 from .connections import Named, Server
 from .checkpoint import Mark, line_of, parted
 from .entries import number
@@ -212,6 +212,7 @@ def etcd_of(settings: RecorderSettings) -> Etcd:
 async def serve(settings: RecorderSettings) -> int:
     """Runs a recorder until a signal ends it, or it must stop; returns its exit status."""
     try:
+        private.begin(settings.state)
         state = State.open(settings.state)
         loaded = [certificates.read(pathlib.Path(it)) for it in (settings.certificate, settings.etcd_certificate)]
     except (OSError, ValueError) as fault:

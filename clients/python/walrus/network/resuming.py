@@ -1,18 +1,20 @@
 """Sends large files to a gateway as resumable uploads, which the next command for the same file continues, too."""
 import asyncio
 import contextlib
+import fcntl
 import hashlib
 import json
 import os
 import pathlib
 import time
-from typing import IO, Any, AsyncIterator, Optional
+from typing import IO, Any, AsyncIterator, Iterator, Optional
 
 import aiohttp
 
+from .bar import Bar
 from .checked import Naming, written_whole
 from .chunks import LONGEST, PIECE
-from .transfers import PART, TRIES, Bar, Failure, ask, check, json_of, must_name, naming_of, put, reason_of, sending
+from .transfers import PART, TRIES, Failure, ask, check, json_of, must_name, naming_of, put, reason_of, sending
 from .unfinished import IDLE
 
 KIND = "application/partial-upload"
@@ -47,12 +49,24 @@ class Known:
 
     def keep(self, place: str) -> None:
         """Notes the URL at which this upload continues, or forgets the upload if `place` is empty."""
-        known = {name: it for name, it in self.read().items() if name != self.key}
         with contextlib.suppress(OSError):
             self.path.parent.mkdir(parents=True, exist_ok=True, mode=0o700)
-            with written_whole(str(self.path)) as out:
+            with self.locked(), written_whole(str(self.path)) as out:
+                known = {name: it for name, it in self.read().items() if name != self.key}
                 told = {self.key: {"place": place, "time": time.time()}} if place else {}
                 out.write(json.dumps({**known, **told}).encode())
+
+    @contextlib.contextmanager
+    def locked(self) -> Iterator[None]:
+        """Has other commands of this user wait while the file is read and written anew: else entries are lost. The lock
+        is a file of its own, as this one is replaced."""
+        with open(self.path.with_suffix(".lock"), "ab", opener=made) as lock:
+            fcntl.flock(lock, fcntl.LOCK_EX)  # ends with the file; others hold it for milliseconds
+            yield
+
+
+def made(path: str, flags: int) -> int:
+    return os.open(path, flags, 0o600)
 
 
 def name_of(key: list[Any]) -> str:

@@ -3,22 +3,24 @@ import asyncio
 import collections
 import concurrent.futures
 import dataclasses
-import mmap
-import tempfile
-from typing import Iterator, Optional, Sized, Union
+from typing import Callable, Iterator, Optional, Sized, TypeVar
 
 from .chunks import MOST_PIECES, NAME, PIECE, File
 from .manifest import MARK, MOST_BYTES, Foreign, Manifest, Place, Wrong
-from .pieces import to_the_end, write
+from .pieces import in_memory, parts_of
 from .problems import Problem
-from .reading import Reader
+from .reading import TRIES, Reader
+from .sealed import Blob, Damaged, Sealed, front_of, is_away
+from .threads import in_thread, to_the_end
 from .turns import ASKING, Turns
 
 MOST, ROOM, SLIGHT = 128, 67_108_864, 65_536  # most manifests kept; their bytes; bytes of one that memory holds
+CHUNK = 16_384  # bytes of a manifest that are read, and checked, to look up a line of it
 WAITING = 8  # clients that wait for a manifest at once; one manifest at a time is read
 TOGETHER = 1_024  # blobs or files that are handled before other tasks run
 MOST_BLOBS = MOST_PIECES + 1  # most that one request keeps for longer: those of the longest file
 MANY = f"it has more than {MOST_BLOBS:,} blobs: keep parts of it for longer, such as each file of a folder"
+Result = TypeVar("Result")
 NO_FOLDER = "the blob is no folder: read it under /v1/blobs"
 LISTS = concurrent.futures.ThreadPoolExecutor(5, "lists")  # two lists of folders, two of blobs, and
 # one manifest that is read: each takes seconds, in which other threads encode blobs
@@ -61,10 +63,25 @@ class Shelf:
                     await asyncio.shield(self.loading[name])
         return found
 
+    async def look(self, name: bytes, work: Callable[[Manifest], Result]) -> Result:
+        """Returns what `work` finds in a manifest, in a thread if that is in a file. If the disk gives back something
+        else than was read, the manifest is read anew. Raises as `manifest` does, and `Damaged` if that does not help.
+        """
+        for left in reversed(range(TRIES)):
+            found = await self.manifest(name)
+            try:
+                return await in_thread(work, found) if is_away(found.data) else work(found)
+            except Damaged:
+                if not left:
+                    raise
+        raise AssertionError
+
     def known(self, name: bytes) -> Optional[Manifest]:
         """Returns a manifest if it is kept, else None; raises `Problem` for what is known to be none."""
         if name in self.none:
             raise Problem(*self.none[name], manifest=False)
+        if name in self.kept and self.kept[name].is_damaged():
+            del self.kept[name]
         if name in self.kept:
             self.kept.move_to_end(name)
         return self.kept.get(name)
@@ -88,23 +105,28 @@ class Shelf:
         while len(self.kept) > MOST or len(self.kept) > 1 and sum(len(it.data) for it in self.kept.values()) > ROOM:
             self.kept.popitem(last=False)
 
-    async def read(self, name: bytes) -> Union[bytes, memoryview]:
-        """Returns the bytes of what may be a manifest, as a mapped file without a name if they are many."""
+    async def read(self, name: bytes) -> Blob:
+        """Returns the bytes of what may be a manifest, in a file without a name if they are many."""
         async with self.reader.blob(name) as blob:
             file = File.of(name, blob)
-            if file.names == name and bytes(blob[: len(MARK)]) != MARK:
+            if file.names == name and front_of(blob, len(MARK)) != MARK:
                 raise Foreign("it does not begin as a manifest does")
             if file.length <= SLIGHT and file.names == name:
-                return bytes(blob)
-        with tempfile.TemporaryFile(buffering=0) as out:
-            for piece, size, _, _ in file.pieces(0, file.length):
-                async with self.reader.blob(piece, size) as blob:
-                    if not out.tell() and bytes(blob[: len(MARK)]) != MARK:
-                        raise Foreign("it does not begin as a manifest does")
-                    if file.length > MOST_BYTES:
-                        raise Wrong(f"it has more than {MOST_BYTES} bytes")
-                    await to_the_end(write, out, memoryview(blob))
-            return memoryview(mmap.mmap(out.fileno(), file.length, access=mmap.ACCESS_READ))
+                return bytes(await in_memory(blob))
+            del blob
+        out = Sealed(CHUNK)
+
+        async def copy(blob: Blob) -> None:
+            if not len(out) and front_of(blob, len(MARK)) != MARK:
+                raise Foreign("it does not begin as a manifest does")
+            if file.length > MOST_BYTES:
+                raise Wrong(f"it has more than {MOST_BYTES} bytes")
+            async for part in parts_of(blob, len(out) % PIECE):
+                await to_the_end(out.add, part)
+
+        for piece, size, _, _ in file.pieces(0, file.length):
+            await self.reader.within(piece, copy, size)
+        return out
 
     async def file(self, place: Place) -> File:
         """Returns the file at a place; raises 410 if it has another length than its manifest says."""
@@ -122,12 +144,12 @@ class Shelf:
         list those of its names. Raises `Problem` if one is uncertified or invalid, and `Many` if they are more than
         `most`."""
         async with self.reader.blob(name) as blob:
-            file, front = File.of(name, blob), bytes(blob[: len(MARK)])
+            file, front = File.of(name, blob), front_of(blob, len(MARK))
         found = dict[bytes, int]()
         await self.add_blobs(found, name, file, most)
         if file.names != name and file.length <= MOST_BYTES:
             async with self.reader.blob(next(file.pieces(0, 1))[0]) as blob:
-                front = bytes(blob[: len(MARK)])
+                front = front_of(blob, len(MARK))
         if front != MARK:
             return found
         try:

@@ -2,18 +2,18 @@
 walrus or its library."""
 import asyncio
 import contextlib
+import functools
 import json
 import os
 import re
-import sys
-import time
 from typing import IO, Any, AsyncIterator, Awaitable, Callable, Optional
 
 import aiohttp
 from .. import bundles, client, library
 
+from .bar import Bar
 from .checked import Naming, is_named
-from .chunks import LONGEST
+from .chunks import LONGEST, PIECE, File
 from .local import find_program
 from .manifest import clean
 
@@ -27,28 +27,12 @@ class Failure(Exception):
     """A command that failed: why, in a sentence, and the exit status."""
 
 
+class TooLong(Failure):
+    """A gateway sends more than a file has."""
+
+
 class Busy(Failure):
     """The gateway refuses a request as it has too many of this client (429)."""
-
-
-class Bar(contextlib.AbstractContextManager["Bar"]):
-    """A line on a terminal that shows the progress of what takes longer than a second."""
-
-    def __init__(self, name: str, size: int = 0):
-        self.name, self.size, self.done = name, size, 0
-        self.begun, self.told = time.monotonic(), 0.0
-
-    def add(self, count: int) -> None:
-        now, self.done = time.monotonic(), self.done + count
-        if sys.stderr.isatty() and now - self.begun > 1 and now - self.told > 0.1:
-            self.told = now
-            bar = f"[{'#' * (30 * self.done // self.size):30.30}] " if self.size else ""
-            speed = self.done / 1e6 / (now - self.begun)
-            print(f"\r{self.name} {bar}{self.done / 1e6:.1f} MB, {speed:.1f} MB/s\033[K", end="", file=sys.stderr)
-
-    def __exit__(self, *_: object) -> None:
-        if self.told:
-            print("\r\033[K", end="", file=sys.stderr, flush=True)
 
 
 async def json_of(response: aiohttp.ClientResponse) -> Any:
@@ -202,7 +186,12 @@ async def fetch(session: aiohttp.ClientSession, name: str, out: IO[bytes]) -> in
         while part := out.read(PART):
             await naming.add(part)
         before = naming.size
-        size = await receive(session, blob, out, naming, done=before)
+        longer = functools.partial(length_of, session, blob, naming)
+        try:
+            size = await receive(session, blob, out, naming, done=before, most=PIECE, longer=longer)
+        except TooLong:
+            out.truncate(0)
+            raise
         if await is_named(out, bytes.fromhex(blob), naming):
             break
         out.seek(0)
@@ -226,6 +215,29 @@ async def fetch(session: aiohttp.ClientSession, name: str, out: IO[bytes]) -> in
     return out.write(members[int(number)])
 
 
+async def length_of(session: aiohttp.ClientSession, name: str, naming: Naming) -> int:
+    """Returns the length of a file of several pieces: an identifier commits to it by the list of the pieces, which the
+    gateway gives. Raises `Failure` if that has another identifier."""
+    listed, lies = (
+        bytearray(),
+        "the gateway gives more than 16 MiB for an identifier of a shorter file: this gateway lies",
+    )
+    async with session.get(f"/v1/lists/{name}") as response:
+        if response.status == 404:
+            raise TooLong(lies, 1)
+        await check(response)
+        async for part in response.content.iter_any():
+            listed += part
+            if len(listed) > PIECE:
+                raise TooLong(lies, 1)
+    identifier, data = bytes.fromhex(name), bytes(listed)
+    names = [await Naming(naming.walrus, naming.faults, form).name(data) for form in (1, 2)]
+    file = File.of(identifier, data)
+    if identifier not in names or file.names == identifier:
+        raise TooLong(lies, 1)
+    return file.length
+
+
 async def receive(
     session: aiohttp.ClientSession,
     name: str,
@@ -234,11 +246,18 @@ async def receive(
     shared: Optional[Bar] = None,
     done: int = 0,
     most: int = LONGEST,
+    longer: Optional[Callable[[], Awaitable[int]]] = None,
 ) -> int:
     """Writes what a gateway gives for a name from byte `done` on, and goes on after a broken connection. Returns the
     length of the whole file. Raises `Failure` after `TRIES` breaks without progress, and if it has more than `most`
-    bytes, as a gateway may send without end."""
+    bytes, or those that `longer` then returns: a gateway may send without end, and would fill the disk."""
     tries, start, furthest = 0, done, done
+
+    async def keep(part: bytes) -> None:
+        out.write(part)
+        await naming.add(part)
+        bar.add(len(part))
+
     with contextlib.nullcontext(shared) if shared else Bar(name[:16]) as bar:
         bar.add(done)
         while True:
@@ -253,11 +272,15 @@ async def receive(
                     bar.size = bar.size if shared else done - again + (it.content_length or 0)
                     async for part in it.content.iter_any():
                         part, again = part[again:], max(0, again - len(part))
+                        if done + len(part) > most and longer:
+                            room = max(0, most - done)  # the gateway may go meanwhile: what has come stays
+                            await keep(part[:room])
+                            part, done = part[room:], done + room
+                            most, longer = await longer(), None
                         if done + len(part) > most:
-                            raise Failure(f"the gateway gives more than the {most} bytes that the file may have", 3)
-                        done += out.write(part)
-                        await naming.add(part)
-                        bar.add(len(part))
+                            raise TooLong(f"the gateway gives more than the {most} bytes that the file may have", 3)
+                        await keep(part)
+                        done += len(part)
                     return done
             except (aiohttp.ClientConnectionError, aiohttp.ClientPayloadError) as fault:
                 tries, furthest = (1 if done > furthest else tries + 1), max(furthest, done)

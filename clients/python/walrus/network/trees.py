@@ -6,12 +6,13 @@ from typing import Any, AsyncIterator, Callable, Iterator
 
 import aiohttp
 
+from .bar import Bar
 from .checked import Naming
 from .entries import LAST_UNTIL
 from .groups import several
 from .manifest import Wrong, as_path, label_of, shown
 from .packing import SMALL, Folder
-from .transfers import PART, Bar, Busy, Failure, ask, must_name, naming_of, patiently, put
+from .transfers import PART, Busy, Failure, ask, must_name, naming_of, patiently, put
 
 WIDTH = 4  # parts of a folder that are sent or fetched at once
 KINDS = {stat.S_IFLNK: "a link", stat.S_IFSOCK: "a socket", stat.S_IFIFO: "a pipe"}

@@ -2,13 +2,13 @@
 
 A folder has `about` (until when the file is kept, the epoch in which the upload began, and the length if known),
 `names` (33 bytes for each certified piece: its identifier, and 1 if it was stored before), the later pieces in files by
-number, of which the last one grows, and `told` (the answer) once finished. Its name begins with a mark of the owner."""
+number, of which the last one grows, and their sums (`growing`), and `told` (the answer) once finished. Its name begins
+with a mark of the owner."""
 import collections
 import contextlib
 import fcntl
 import hashlib
 import json
-import mmap
 import os
 import pathlib
 import re
@@ -18,8 +18,11 @@ import time
 from typing import IO, Any, Optional
 
 from .chunks import MARK, NAME, PIECE
-from .pieces import Mapped, must_fit, to_the_end, write
+from .growing import FULL, Piece, drop, sum_of, written_at
+from .pieces import must_fit, write
 from .problems import Problem
+from .sealed import Blob
+from .threads import to_the_end
 
 ALL, OF_ONE = 64, 8  # the most unfinished uploads, and of one owner
 FINISHED = 256  # the most finished uploads that are kept
@@ -31,7 +34,6 @@ FRESH = 1.0  # seconds for which a list of the uploads is used again: with many 
 RECORD = NAME + 1
 BEGUN = time.time() - time.monotonic()  # by how much the time of day was ahead of the monotonic clock at the start
 STRANGER, HOLDER = "a", "b"  # first letters of the names of uploads that belong to an address, and to a token
-FULL = "the gateway has too little room on its disk for this upload: try again later, what has come of it stays"
 GONE = "there is no such upload, or it was dropped: begin it again, and what is certified is not stored again"
 
 
@@ -66,9 +68,13 @@ class Upload:
         except FileNotFoundError:
             raise Problem(404, GONE) from None
         self.records = records[: len(records) // RECORD * RECORD]
-        self.sizes = list[int]()  # of the pieces that are not certified yet
+        self.measure()
+
+    def measure(self) -> None:
+        """Notes what has arrived of the pieces that are not certified yet. What the disk has lost has not arrived."""
+        self.sizes = list[int]()
         while self.sizes[-1:] in ([], [PIECE]) and (path := self.path(self.count + len(self.sizes))).exists():
-            self.sizes.append(path.stat().st_size)
+            self.sizes.append(sum_of(path)[0])
 
     @property
     def count(self) -> int:
@@ -108,7 +114,7 @@ class Upload:
             await to_the_end(written_at, self.path(number), self.sizes[-1], data, self.reserve)
         finally:
             with contextlib.suppress(FileNotFoundError):
-                self.sizes[-1] = self.path(number).stat().st_size  # also if the disk took only a part
+                self.sizes[-1] = sum_of(self.path(number))[0]  # also if the disk took only a part
         return number if self.sizes[-1] == PIECE else None
 
     def room(self) -> int:
@@ -119,13 +125,9 @@ class Upload:
         """Returns the numbers of the pieces that are whole and not certified yet."""
         return range(self.count, self.count + sum(size == PIECE for size in self.sizes))
 
-    def piece(self, number: int) -> bytes:
-        """Returns a piece that is not certified yet, mapped from its file; empty if there is none."""
-        if not self.path(number).exists():
-            return b""
-        with open(self.path(number), "rb") as file:
-            size = os.fstat(file.fileno()).st_size
-            return memoryview(Mapped(file.fileno(), size, access=mmap.ACCESS_READ)) if size else b""
+    def piece(self, number: int) -> Blob:
+        """Returns a piece that is not certified yet, in its file; empty if there is none."""
+        return Piece(self.path(number)) if self.path(number).exists() else b""
 
     def record(self, name: bytes, was_there: bool) -> None:
         """Records that the first uncertified piece is now certified under `name`, and deletes its file."""
@@ -136,7 +138,7 @@ class Upload:
         with open(self.folder / "names", "r+b", buffering=0) as out:
             out.seek(len(self.records))
             write(out, memoryview(name + bytes([was_there])))  # raises if a full disk takes only a part
-        self.path(self.count).unlink()
+        drop(self.path(self.count))
         self.records += name + bytes([was_there])
         del self.sizes[:1]
         self.touch()
@@ -146,21 +148,13 @@ class Upload:
         half = self.folder / "told.half"
         half.write_text(json.dumps(told))
         half.rename(self.folder / "told")
-        for path in [self.folder / "names", *self.folder.glob("*.piece")]:
+        for path in [self.folder / "names", *self.folder.glob("*.sum"), *self.folder.glob("*.piece")]:
             path.unlink()
         self.told, self.records = told, b""
 
     def touch(self) -> None:
         """Restarts the time after which the upload is dropped."""
         os.utime(self.folder / "about", (now(), now()))
-
-
-def written_at(path: pathlib.Path, place: int, data: memoryview, reserve: float) -> None:
-    """Writes bytes at `place` of a file; at 0 it begins the file anew. Raises `Problem` if the disk is too full."""
-    must_fit(path.parent, len(data), reserve, FULL)
-    with open(path, "r+b" if place else "wb", buffering=0) as file:
-        file.seek(place)
-        write(file, data)
 
 
 class Unfinished:
@@ -215,7 +209,10 @@ class Unfinished:
         made.mkdir(parents=True, mode=0o700)
         try:
             (made / "names").touch()
-            written_at(made / "about", 0, memoryview(json.dumps(about).encode()), self.reserve)
+            said = json.dumps(about).encode()
+            must_fit(made, len(said), self.reserve, FULL)
+            with open(made / "about", "wb", buffering=0) as file:
+                write(file, memoryview(said))
         except BaseException:
             shutil.rmtree(made, ignore_errors=True)  # otherwise it would take a place that no client knows of
             raise

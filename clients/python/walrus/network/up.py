@@ -1,17 +1,20 @@
 """A whole network on this machine, with a gateway, to try it."""
 import argparse
 import asyncio
+import fcntl
 import os
 import pathlib
 import subprocess
 import sys
 import time
+from typing import IO
 
-from . import gateway
+from . import gateway, private
 from .configuration import values_of
 from .exposure import Options
 from .local import Local, find_program
 from .operating import shards_of
+from .ports import must_be_free
 from .transfers import Failure
 
 LONGEST = 600  # seconds until everything must be ready
@@ -28,7 +31,8 @@ async def up(words: argparse.Namespace, options: Options) -> int:
     folder, program = (words.folder or pathlib.Path("walrus-network")).resolve(), find_program()
     if not os.access(program, os.X_OK):
         raise Failure(f"{program} is not there: build it with ./walrus, or set WALRUS to its path", 1)
-    folder.mkdir(parents=True, exist_ok=True)
+    private.close_to_others()
+    private.make_folder(folder)
     if words.detach:
         return detach(folder)
     local = Local(folder, program)
@@ -37,6 +41,8 @@ async def up(words: argparse.Namespace, options: Options) -> int:
             await local.add_node(name)
             print(folder / f"{name}.toml")
         return 0
+    lock = locked(folder)
+    must_be_free("the gateway", words.host, words.port)
     fresh, told = [f"node-{number}" for number in range(3 * words.faults + 1)], gateway.ending()
     found = nodes_in(folder)
     owners = shards_of(words.nodes.split(",")) if words.nodes else [] if found else fresh
@@ -55,6 +61,25 @@ async def up(words: argparse.Namespace, options: Options) -> int:
         return status
     finally:
         await local.close()
+        lock.close()
+
+
+def locked(folder: pathlib.Path) -> IO[str]:
+    """Locks a folder until the file that it returns is closed; raises `Failure` if another process runs a network over
+    it. No other user can open the file, and so hold the lock."""
+    lock = open(folder / "up.lock", "a+", opener=lambda path, flags: os.open(path, flags | os.O_NOFOLLOW, 0o600))
+    try:
+        fcntl.flock(lock, fcntl.LOCK_EX | fcntl.LOCK_NB)
+    except BlockingIOError:
+        lock.seek(0)
+        text = (
+            f"process {lock.read()} runs the network in {folder} already: end it first (kill), or take another folder"
+        )
+        raise Failure(text, 1) from None
+    lock.truncate(0)
+    lock.write(str(os.getpid()))
+    lock.flush()
+    return lock
 
 
 def detach(folder: pathlib.Path) -> int:

@@ -18,6 +18,7 @@ from .entries import LAST_UNTIL
 from .guard import PASSED_ON
 from .problems import Problem, as_json
 from .publishing import LISTED, Publisher, as_known, failed_with, must_be_plain
+from .sealed import front_of
 from .shares import Charge
 from .turns import WAITING, Turns, owner_of
 from .unfinished import IDLE, Unfinished, Upload, is_of
@@ -154,6 +155,7 @@ class Uploads:
                     raise Problem(400, f"{upload.offset} of {length} bytes have come, but Upload-Complete is ?1")
                 told = await self.finish(upload) if is_last else None
         except FAULTS as fault:
+            upload.measure()  # less may have arrived than it seemed
             upload.touch()
             raise failed_with(fault, listed(upload), {**headers, **self.state(upload)}) from None
         finally:
@@ -205,7 +207,7 @@ class Uploads:
         size, marked, was_there = upload.offset, upload.is_marked, upload.was_there
         if any(upload.sizes) or not names:
             last = upload.piece(upload.count)
-            marked = marked or not names and bytes(last[: len(MARK)]) == MARK
+            marked = marked or not names and front_of(last, len(MARK)) == MARK
             name, before = await store(last, until)
             names, was_there = [*names, name], was_there and before
         identifier = names[0]
