@@ -100,7 +100,6 @@ class Bodies(unittest.IsolatedAsyncioTestCase):
         for (begun, end), (later, _) in zip(own, own[1:]):
             self.assertGreaterEqual(later - end, 0.99 * (end - begun))
 
-
     async def test_of_the_long_bodies_of_a_name_one_is_in_memory(self) -> None:
         """Otherwise whoever sends many at once has all of them in the recorder's memory. Short ones, and those of
         others, are read meanwhile."""

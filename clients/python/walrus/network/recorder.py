@@ -12,7 +12,7 @@ import sys
 import time
 from typing import Iterator, Optional, Union
 
-from .checkpoint import state_of
+from .checkpoint import Mark, Pieces, Unfit
 from .entries import Chain, Entry, fitting
 from .etcd import Batch, Etcd, Failed, Gone
 from .follower import Refused
@@ -166,14 +166,30 @@ class Recorder:
         mark, place = await self.etcd.mark(), self.chain.place
         if not mark or mark.place <= place:
             raise Broken(f"etcd has neither the entries after place {place} nor a later checkpoint")
-        with contextlib.suppress(Gone):  # a later one has replaced it meanwhile
-            pieces = [await self.etcd.piece(mark.place, number) for number in range(mark.pieces)]
-            if await asyncio.to_thread(state_of, pieces) != mark.state:
-                raise Broken(f"the checkpoint of place {mark.place} in etcd is not what was written")
-            await self.state.take(pieces)
+        pieces = Pieces(self.state.folder)
+        try:
+            await self.gather(mark, pieces)
+            await self.state.take(pieces, self.state.identity, mark.chain)
             self.recent.clear()
             self.size = 0
             await self.state.forget_places(mark.place)
+        except Gone:  # a later one has replaced it meanwhile
+            pass
+        except Unfit as fault:
+            raise Broken(f"the checkpoint of place {mark.place} in etcd is not what was written: {fault}") from fault
+        finally:
+            pieces.clear()
+
+    async def gather(self, mark: Mark, pieces: Pieces) -> None:
+        """Reads all pieces of a checkpoint from etcd; raises `Unfit` if they are not what was written."""
+        for number in range(mark.pieces):
+            piece = await self.etcd.piece(mark.place, number)
+            try:
+                await asyncio.to_thread(pieces.add, piece)
+            except OSError as fault:
+                raise Failed(f"the disk does not take the checkpoint of place {mark.place}: {fault}") from fault
+        if pieces.state != mark.state:
+            raise Unfit("its digest is another one")
 
     def enter(self, batch: Batch, own: bool = False) -> None:
         """Applies a batch that etcd has (`own` if this recorder has just appended it), or the part that is new here."""

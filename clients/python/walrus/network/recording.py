@@ -94,7 +94,8 @@ class Service(Server):
         the time."""
         name, length = request["name"], request.content_length
         is_small = length is not None and length <= SMALL
-        async with contextlib.nullcontext() if is_small else self.reading[name]:
+        turn: Any = contextlib.nullcontext() if is_small else self.reading[name]
+        async with turn:
             try:
                 async with asyncio.timeout(REQUEST):
                     body = await request.read()
