@@ -33,6 +33,18 @@ def registration(poster: str, number: int, until: int = 5) -> str:
     return entry_key(poster, REGISTER, number.to_bytes(32, "big").hex(), until)
 
 
+async def found(etcd: Etcd) -> None:
+    """Appends the first committee as a recorder would if its nodes, which do not exist, had told their addresses."""
+    made = recording.Recorder(etcd)
+    while not made.ledger.now:
+        with contextlib.suppress(Failed):  # etcd has just been started
+            await made.catch_up()
+            if not made.ledger.now:
+                await made.step(Batch(made.chain, [FOUNDED]))
+        await asyncio.sleep(0.05)
+    made.state.close()
+
+
 class Listed(Owed):
     """The blobs that are owed, from a list."""
 
@@ -66,6 +78,9 @@ class LedgerCase(unittest.IsolatedAsyncioTestCase):
             for name in self.local.recorders:
                 await self.record(RecorderSettings.read(self.folder / f"{name}.toml"))
         self.operator, self.publisher = self.user(OPERATOR), self.user("publisher")
+        etcd = recording.etcd_of(RecorderSettings.read(self.folder / "recorder-0.toml"))
+        await found(etcd)
+        await etcd.aclose()
         await self.operator.post(FOUNDED)
 
     async def copy_certificates(self) -> None:
@@ -284,4 +299,4 @@ class Memory(Etcd):
         return found
 
 
-__all__ = ["FOUNDED", "FOUR", "Chain", "LedgerCase", "Memory", "Plain", "registration"]
+__all__ = ["FOUNDED", "FOUR", "Chain", "LedgerCase", "Memory", "Plain", "found", "registration"]

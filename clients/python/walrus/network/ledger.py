@@ -146,10 +146,12 @@ class Ledger:
 
     def refused(self, entry: Entry) -> str:
         """Applies an entry and returns why it changes nothing, or an empty text if it counts. Recorders do not append
-        entries that change nothing, so these take nothing of their poster's share; nor acknowledgements that no correct
-        node posts, although they would count."""
+        entries that change nothing, so these take nothing of their poster's share. Nor do they append some that would
+        count: acknowledgements that no correct node posts, and a committee with names behind which no node stands."""
         if entry.words[1:2] == [ACK] and self.certified_before(entry.values[1], entry.values[0]):
             return "the blob was certified in an earlier epoch"
+        if entry.words[:2] == [OPERATOR, "begin"] and (names := self.no_nodes(entry.values[2])):
+            return f"{' and '.join(names)} can hold no shard: start the node, or correct the name"
         try:
             why = refusal(self.enter(entry))
         except Void as void:
@@ -157,6 +159,12 @@ class Ledger:
         if why and entry.words[1] == REGISTER:
             self.posted[entry.words[0]] -= 1
         return why
+
+    def no_nodes(self, owners: tuple[str, ...]) -> list[str]:
+        """Returns which of these names no node has that can hold shards: the operator's, those that are expelled, and
+        those that have told the ledger no address and hold no shard."""
+        known = {*self.addresses, *self.now} - self.expelled - {OPERATOR}
+        return [name for name in dict.fromkeys(owners) if name not in known]
 
     def stands(self, entry: Entry) -> bool:
         """Whether an entry that counted is still in force: what it says has not ended, and no later one differs."""

@@ -224,7 +224,7 @@ async def serve(settings: RecorderSettings) -> int:
     except (OSError, ValueError) as fault:
         print(f"{settings.name} cannot start: {fault}", file=sys.stderr, flush=True)
         return 1
-    recorder = Recorder(etcd_of(settings), state)
+    recorder = Recorder(etcd_of(settings), state, settings.least)
     service, keeper = Service(recorder, settings), Keeper(recorder, settings.patience)
     watching = [certificates.watch(settings.name, it) for it in loaded]
     tasks = [asyncio.create_task(it) for it in (recorder.run(), keeper.run(), ending().wait(), *watching)]

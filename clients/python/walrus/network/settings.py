@@ -28,6 +28,7 @@ class Settings(Role):
     reserve: float = 0.05  # fraction of the disk that is kept free
     scrub: float = 30.0  # days in which everything held is read and judged once; 0 for never
     scrub_rate: int = 20_000_000  # bytes a second that a scrub reads at most
+    least: float = 0.0  # seconds that an epoch lasts before this node says that it is ready for the next one
     metrics: str = ""  # where Prometheus reads metrics: PORT on loopback alone, or HOST:PORT
     recorded: bool = False  # keep all requests and replies, for network/trace
 
@@ -55,6 +56,7 @@ class RecorderSettings(Role):
     host: str = "127.0.0.1"
     port: int = 0
     patience: float = 604_800.0  # seconds for which entries of past epochs are kept for nodes that are away
+    least: float = 0.0  # seconds that an epoch lasts before the next one may be begun
 
 
 @dataclasses.dataclass(kw_only=True)

@@ -35,6 +35,7 @@ PRAGMA cache_spill = OFF;
 CREATE TABLE IF NOT EXISTS entries (place INTEGER PRIMARY KEY, text TEXT, epoch INTEGER);
 CREATE TABLE IF NOT EXISTS digests (place INTEGER PRIMARY KEY, digest BLOB); -- of all up to some of those places
 CREATE TABLE IF NOT EXISTS told (one INTEGER PRIMARY KEY CHECK (one = 1), value TEXT);
+CREATE TABLE IF NOT EXISTS begun (one INTEGER PRIMARY KEY CHECK (one = 1), epoch INTEGER, time REAL); -- by this clock
 CREATE TABLE IF NOT EXISTS places (digest BLOB PRIMARY KEY, place INTEGER) WITHOUT ROWID; -- of entries, at a recorder
 """
 TELL = "INSERT OR REPLACE INTO told VALUES (1, ?)"
@@ -60,6 +61,7 @@ class State(Database):
         self.chain: Optional[Chain] = None
         self.fresh = list[Entry]()  # entries that were applied since the last commit
         self.again = self.due = 0.0  # when to try a full disk again; when to commit what is saved with `soon`
+        self.since: Optional[tuple[int, float]] = None  # the epoch, and when it was seen to begin, by time.monotonic
         super().__init__(path)
 
     def open_tables(self) -> None:
@@ -74,6 +76,20 @@ class State(Database):
         self.born = json.dumps(self.fields())
         self.base.execute("BEGIN IMMEDIATE")
         self.load()
+        for epoch, begun in self.base.execute("SELECT epoch, time FROM begun"):
+            self.since = epoch, time.monotonic() - max(0.0, time.time() - begun)
+
+    @property
+    def age(self) -> float:
+        """The seconds since the present epoch was seen to begin, by this machine's clock; infinite if nobody saw that
+        here, as the ledger's first state here was of that epoch. A clock that is set matters at a start only."""
+        return time.monotonic() - self.since[1] if self.since else float("inf")
+
+    def note_epoch(self) -> None:
+        """Notes when an epoch is seen to begin."""
+        epoch = self.ledger.epoch if self.ledger.now else -1
+        if not self.since or self.since[0] != epoch:
+            self.since = epoch, time.monotonic() if self.since else float("-inf")
 
     def load(self) -> None:
         """Loads what was committed; if nothing was, the state of a ledger before its first entry."""
@@ -121,6 +137,7 @@ class State(Database):
         loses is heard again."""
         self.chain = chain
         self.fresh += entries
+        self.note_epoch()
         if not soon or time.monotonic() >= self.due or self.ledger.epoch != self.saved:
             self.settle()
 
@@ -168,6 +185,9 @@ class State(Database):
         else:
             self.blobs.drop(self.blobs.over(DROPPED))
         self.base.execute(TELL, (json.dumps(self.fields()),))
+        if self.since:
+            begun = max(0.0, time.time() - self.age)
+            self.base.execute("INSERT OR REPLACE INTO begun VALUES (1, ?, ?)", (self.since[0], begun))
         self.base.execute("COMMIT")
         self.base.execute("BEGIN IMMEDIATE")
         self.saved = self.ledger.epoch
@@ -225,6 +245,8 @@ class State(Database):
         base.execute("PRAGMA cache_spill = OFF")
         base.execute("BEGIN IMMEDIATE")
         self.entering = False
+        if not fault:
+            self.note_epoch()
         if fault:
             raise fault
 
