@@ -9,7 +9,7 @@ import shutil
 import ssl
 import tempfile
 import unittest
-from typing import Any, Callable, Iterator, Optional
+from typing import Any, Callable, Collection, Iterator, Optional
 
 import aiohttp
 import harness
@@ -170,6 +170,11 @@ class Plain(Blobs):
     def expire(self, epoch: int) -> "collections.Counter[str]":
         self.kept = {identifier: blob for identifier, blob in self.kept.items() if blob.until > epoch}
         return self.posters()
+
+    def release(self, name: str, gone: Collection[str], last: int) -> None:
+        for identifier, blob in [*self.items()]:
+            if blob.poster == name and blob.until > last:
+                self.kept[identifier] = blob.without(gone, last)
 
     def posters(self) -> "collections.Counter[str]":
         return collections.Counter(blob.poster for blob in self.values())

@@ -254,7 +254,7 @@ class Votes(unittest.TestCase):
         for seed in range(4):
             lean, whole, chain = State(), State(), Chain(0, bytes(32))
             for place, text in enumerate(self.history(random.Random(seed)), 1):
-                with mock.patch.object(blobs, "counting", uncounted):
+                with mock.patch("walrus.network.blob.counting", uncounted):
                     line = whole.ledger.apply(Entry(place, text))
                 self.assertEqual(lean.ledger.apply(Entry(place, text)), line)
                 self.assertEqual(self.asked(lean.ledger), self.asked(whole.ledger))

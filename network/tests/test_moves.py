@@ -49,9 +49,9 @@ class Moves(unittest.IsolatedAsyncioTestCase):
         ledger: Any = types.SimpleNamespace(epoch=0, moving=True, ready=frozenset(), quorum=3, revision=0)
         ledger.must_hold, begun, waiting = list, clock(), Waiting()
 
-        class State:
+        class Age:
             @property
-            def age(self) -> float:
+            def seconds(self) -> float:
                 return clock() - begun
 
         async def post(text: str) -> None:
@@ -61,7 +61,9 @@ class Moves(unittest.IsolatedAsyncioTestCase):
         async def until(holds: Any, seconds: float) -> None:
             await waiting.until(lambda: holds(ledger), seconds)
 
-        node: Any = types.SimpleNamespace(ledger=ledger, name="a", sides={1: {0: None}}, until=until, state=State())
+        node: Any = types.SimpleNamespace(
+            ledger=ledger, name="a", sides={1: {0: None}}, until=until, state=types.SimpleNamespace(begun=Age())
+        )
         node.settings, node.recorders = types.SimpleNamespace(least=1.0), types.SimpleNamespace(post=post)
         self.enterContext(mock.patch.object(handover, "settle", mock.AsyncMock(return_value=0)))
         with contextlib.redirect_stderr(io.StringIO()) as said:

@@ -3,8 +3,10 @@
 Its lines are JSON: `[NAME, VALUE]` and `[NAME, KEY, VALUE]` for the state beside blobs, and then, in the order of
 identifiers, `[IDENTIFIER, NUMBER, UNTIL, POSTER, VOTES, CERTIFIED, INVALID]` for each blob. From the same ledger every
 recorder makes the same pieces."""
+import contextlib
 import hashlib
 import json
+import sqlite3
 import tempfile
 import zlib
 from typing import Any, Iterable, Iterator, NamedTuple, Optional
@@ -13,6 +15,7 @@ from .entries import Chain
 
 LONGEST = 1_048_576  # bytes of a piece before it is compressed
 MOST_PIECES = 65_536  # of a checkpoint: more than any etcd has room for
+WRONG = ValueError, LookupError, TypeError, AttributeError, ArithmeticError, RecursionError  # raised by a wrong text
 # Of a blob: identifier, number, until, poster, votes, and the epochs in which it was certified and declared invalid.
 Row = tuple[bytes, int, int, str, str, Optional[int], Optional[int]]
 
@@ -88,6 +91,17 @@ def read(pieces: Iterable[bytes], fields: dict[str, Any]) -> Iterator[Row]:
                 fields.setdefault(name, {})[values[0]] = values[1]
             else:
                 fields[name] = values[0]
+
+
+@contextlib.contextmanager
+def checked() -> Iterator[None]:
+    """Raises `Unfit` if what is read in this block is no checkpoint. Other faults of SQLite are the disk's."""
+    try:
+        yield
+    except Unfit:
+        raise
+    except (*WRONG, sqlite3.IntegrityError, sqlite3.ProgrammingError, sqlite3.InterfaceError) as fault:
+        raise Unfit(f"it is no checkpoint: {fault!r}") from fault
 
 
 class Pieces:

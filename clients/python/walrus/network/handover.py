@@ -165,7 +165,12 @@ async def move(node: "Node") -> None:
             if left and left != said:
                 print(f"{node.name}: epoch {epoch}: {left} blobs are still missing", file=sys.stderr, flush=True)
             said = left
-            if own and not left and not own <= ledger.ready and (early := node.settings.least - node.state.age) > 0:
+            if (
+                own
+                and not left
+                and not own <= ledger.ready
+                and (early := node.settings.least - node.state.begun.seconds) > 0
+            ):
                 text = f"epoch {epoch - 1} lasts at least {node.settings.least:g} s by this clock"
                 print(f"{node.name}: epoch {epoch}: {text}, so ready in {early:.0f} s", file=sys.stderr, flush=True)
                 await node.until(lambda it: not it.moving or it.epoch + 1 != epoch, early)

@@ -234,13 +234,13 @@ class Recorder:
                 answers[taken] = Refused(reason)
             else:
                 answers[taken] = places[text] = entry.place
-                if fork.epoch != self.ledger.epoch:
-                    break  # the copy is good up to an epoch change only
+                if (fork.epoch, fork.expelled) != (self.ledger.epoch, self.ledger.expelled):
+                    break  # the copy is good up to an epoch change only, and until a name is expelled
         return answers, Batch(self.chain, [*places]) if places else None
 
     def early(self, entry: Entry) -> str:
         """Returns why the next epoch cannot be begun yet, or an empty text for other entries, and once it can be."""
-        ledger, age = self.ledger, self.state.age
+        ledger, age = self.ledger, self.state.begun.seconds
         if entry.words[:2] != [OPERATOR, "begin"] or not ledger.now or ledger.moving or age >= self.least:
             return ""
         said = (

@@ -11,6 +11,7 @@ import time
 from typing import Any, Callable, Iterable, Iterator, Optional
 
 from . import checkpoint
+from .age import Age
 from .blobs import ALL, Blobs
 from .database import Database
 from .entries import Chain, Entry
@@ -20,22 +21,15 @@ EACH, LATER = 0.5, 1.0  # seconds between two commits; the same at least after t
 HELD = 5_000  # entries that wait for the disk: applying them again takes 0.15 s of a processor, or 1 s if it is busy
 REST = 10  # the pause after a failed commit, as a multiple of the time that it took to apply its entries again
 PAGES = 32_768  # KiB of the database that are kept in memory
-VERSION = 3  # of the tables
+VERSION = 4  # of the tables
 DROPPED = 1_000  # rows of blobs that are over, or entries of the tail, that are deleted with a commit at most
 TORN = sqlite3.SQLITE_CORRUPT, sqlite3.SQLITE_NOTADB, sqlite3.SQLITE_ERROR  # damaged, no database, or another's
-# What a text raises that is no checkpoint; other faults of SQLite are the disk's.
-UNFIT = (ValueError, LookupError, TypeError, AttributeError, ArithmeticError, RecursionError) + (
-    sqlite3.IntegrityError,
-    sqlite3.ProgrammingError,
-    sqlite3.InterfaceError,
-)
 TABLES = """
 PRAGMA synchronous = NORMAL;
 PRAGMA cache_spill = OFF;
 CREATE TABLE IF NOT EXISTS entries (place INTEGER PRIMARY KEY, text TEXT, epoch INTEGER);
 CREATE TABLE IF NOT EXISTS digests (place INTEGER PRIMARY KEY, digest BLOB); -- of all up to some of those places
 CREATE TABLE IF NOT EXISTS told (one INTEGER PRIMARY KEY CHECK (one = 1), value TEXT);
-CREATE TABLE IF NOT EXISTS begun (one INTEGER PRIMARY KEY CHECK (one = 1), epoch INTEGER, time REAL); -- by this clock
 CREATE TABLE IF NOT EXISTS places (digest BLOB PRIMARY KEY, place INTEGER) WITHOUT ROWID; -- of entries, at a recorder
 """
 TELL = "INSERT OR REPLACE INTO told VALUES (1, ?)"
@@ -61,7 +55,6 @@ class State(Database):
         self.chain: Optional[Chain] = None
         self.fresh = list[Entry]()  # entries that were applied since the last commit
         self.again = self.due = 0.0  # when to try a full disk again; when to commit what is saved with `soon`
-        self.since: Optional[tuple[int, float]] = None  # the epoch, and when it was seen to begin, by time.monotonic
         super().__init__(path)
 
     def open_tables(self) -> None:
@@ -74,22 +67,9 @@ class State(Database):
         self.ledger, self.saved = Ledger(self.blobs), 0  # `saved`: the epoch of the last commit
         self.apply: Callable[[Entry], Optional[str]] = self.ledger.apply  # used to apply entries again after a rollback
         self.born = json.dumps(self.fields())
+        self.begun = Age(self.base)
         self.base.execute("BEGIN IMMEDIATE")
         self.load()
-        for epoch, begun in self.base.execute("SELECT epoch, time FROM begun"):
-            self.since = epoch, time.monotonic() - max(0.0, time.time() - begun)
-
-    @property
-    def age(self) -> float:
-        """The seconds since the present epoch was seen to begin, by this machine's clock; infinite if nobody saw that
-        here, as the ledger's first state here was of that epoch. A clock that is set matters at a start only."""
-        return time.monotonic() - self.since[1] if self.since else float("inf")
-
-    def note_epoch(self) -> None:
-        """Notes when an epoch is seen to begin."""
-        epoch = self.ledger.epoch if self.ledger.now else -1
-        if not self.since or self.since[0] != epoch:
-            self.since = epoch, time.monotonic() if self.since else float("-inf")
 
     def load(self) -> None:
         """Loads what was committed; if nothing was, the state of a ledger before its first entry."""
@@ -137,7 +117,7 @@ class State(Database):
         loses is heard again."""
         self.chain = chain
         self.fresh += entries
-        self.note_epoch()
+        self.begun.note(self.ledger)
         if not soon or time.monotonic() >= self.due or self.ledger.epoch != self.saved:
             self.settle()
 
@@ -185,9 +165,7 @@ class State(Database):
         else:
             self.blobs.drop(self.blobs.over(DROPPED))
         self.base.execute(TELL, (json.dumps(self.fields()),))
-        if self.since:
-            begun = max(0.0, time.time() - self.age)
-            self.base.execute("INSERT OR REPLACE INTO begun VALUES (1, ?, ?)", (self.since[0], begun))
+        self.begun.save()
         self.base.execute("COMMIT")
         self.base.execute("BEGIN IMMEDIATE")
         self.saved = self.ledger.epoch
@@ -198,13 +176,11 @@ class State(Database):
 
     @property
     def folder(self) -> Optional[str]:
-        """The folder of its file; None without one."""
         return str(pathlib.Path(self.name).absolute().parent) if self.name else None
 
     async def take(self, pieces: Iterable[bytes], identity: str = "", chain: Optional[Chain] = None) -> None:
-        """Replaces the state by a checkpoint, which must be of this ledger and end with this chain, if one is given,
-        or else raises `Unfit`. Retries until the disk takes it, and before that all that was applied: so what others
-        see meanwhile does not go back."""
+        """Replaces the state by a checkpoint; raises `Unfit` if it is not of this ledger and chain, if they are given.
+        Retries until the disk takes it, and before that all that was applied: so what others see does not go back."""
         while True:
             if not self.is_full() and self.settle():
                 try:
@@ -246,7 +222,7 @@ class State(Database):
         base.execute("BEGIN IMMEDIATE")
         self.entering = False
         if not fault:
-            self.note_epoch()
+            self.begun.note(self.ledger)
         if fault:
             raise fault
 
@@ -255,19 +231,13 @@ class State(Database):
         told, base = dict[str, Any](), self.base
         base.execute("PRAGMA cache_spill = ON")
         base.execute("BEGIN IMMEDIATE")
-        try:
+        with checkpoint.checked():
             Blobs(base).take(checkpoint.read(pieces, told))
             with contextlib.closing(State()) as other:
                 other.put(told)  # raises if the next start could not read it
             found = Chain(told["place"], bytes.fromhex(told["digest"]))
-        except UNFIT as fault:
-            raise checkpoint.Unfit(f"it is no checkpoint: {fault!r}") from fault
-        if chain and (told["ledger"], found) != (identity, chain):
-            raise checkpoint.Unfit(
-                f"it is of place {found.place}, or of another ledger, and not of place {chain.place}"
-            )
-        if self.chain and told["epoch"] < self.saved:
-            raise checkpoint.Unfit(f"it is of epoch {told['epoch']}, and epoch {self.saved} has begun")
+        if chain and (told["ledger"], found) != (identity, chain) or self.chain and told["epoch"] < self.saved:
+            raise checkpoint.Unfit(f"it is of place {found.place} and epoch {told['epoch']}, or of another ledger")
         base.execute("DELETE FROM entries")
         base.execute("DELETE FROM digests")
         base.execute(TELL, (json.dumps(told),))
