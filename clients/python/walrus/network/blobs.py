@@ -19,6 +19,9 @@ COUNT = """INSERT INTO counts VALUES (new.until, new.poster, 1, new.certified NO
     invalid = invalid + excluded.invalid"""
 COUNT_ALL = """INSERT INTO counts SELECT until, poster, count(*), count(certified), count(invalid) FROM blobs
     GROUP BY until, poster"""
+MOVE_COUNTS = """INSERT INTO counts SELECT ?, poster, sum(registered), sum(certified), sum(invalid) FROM counts
+    WHERE poster = ? AND until > ? GROUP BY poster ON CONFLICT DO UPDATE SET registered = registered +
+    excluded.registered, certified = certified + excluded.certified, invalid = invalid + excluded.invalid"""
 UNCOUNT = """UPDATE counts SET registered = registered - 1, certified = certified - (old.certified NOTNULL),
     invalid = invalid - (old.invalid NOTNULL) WHERE until = old.until AND poster = old.poster"""
 TABLES = (
@@ -134,8 +137,12 @@ class Blobs(Mapping[bytes, Blob]):
         longer."""
         for identifier in self.names("poster = ? AND until > ? AND json_array_length(votes) > 2", name, last):
             self[identifier] = self[identifier].without(gone, last)
-        words = "UPDATE blobs SET until = ? WHERE poster = ? AND until > ?"
-        self.flush().execute(words, (last, name, last))
+        base = self.flush()
+        base.execute("DROP TRIGGER changed")  # all are counted at once, as they may be many
+        base.execute("UPDATE blobs SET until = ? WHERE poster = ? AND until > ?", (last, name, last))
+        base.execute(MOVE_COUNTS, (last, name, last))
+        base.execute("DELETE FROM counts WHERE poster = ? AND until > ?", (name, last))
+        self.make()
         self.forget()
 
     def over(self, count: int) -> list[bytes]:
