@@ -203,7 +203,7 @@ class Steps(unittest.IsolatedAsyncioTestCase):
 
     async def asyncSetUp(self) -> None:
         asyncio.get_running_loop().set_debug(False)
-        self.enterContext(mock.patch.object(Ledger, "no_nodes", return_value=[]))
+        self.enterContext(mock.patch.object(Ledger, "no_nodes", lambda *_: []))
 
     async def run_one(self, etcd: Memory, texts: list[str], recorders: list[recorder.Recorder]) -> None:
         """Posts each entry until a recorder returns its place, which must stay the same."""
