@@ -21,7 +21,7 @@ sys.path.insert(0, str(pathlib.Path(__file__).resolve().parents[2] / "clients" /
 
 from walrus.network import recording  # noqa: E402
 from walrus.network.checkpoint import Mark, Row  # noqa: E402
-from walrus.network.entries import ACK, OPERATOR, REGISTER, Chain, Entry, entry_key  # noqa: E402
+from walrus.network.entries import ACK, ADDRESS, OPERATOR, REGISTER, Chain, Entry, entry_key  # noqa: E402
 from walrus.network.follower import Recorders  # noqa: E402
 from walrus.network.local import Local, free_port  # noqa: E402
 from walrus.network.settings import RecorderSettings  # noqa: E402
@@ -80,6 +80,8 @@ async def speed(local: Local, count: int, width: int, words: int) -> None:
     for name in NODES:
         await local.add_node(name)
     users = {name: user(local, name) for name in (OPERATOR, "publisher", *NODES)}
+    for name in NODES:
+        await users[name].post(entry_key(name, ADDRESS, "127.0.0.1", 1))
     await users[OPERATOR].post(entry_key(OPERATOR, "begin", 0, 1, ",".join(NODES)))
     numbers = iter(range(count))
 

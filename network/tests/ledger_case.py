@@ -9,7 +9,7 @@ import shutil
 import ssl
 import tempfile
 import unittest
-from typing import Any, Callable, Iterator, Optional
+from typing import Any, Callable, Collection, Iterator, Optional
 
 import aiohttp
 import harness
@@ -31,6 +31,18 @@ FOUNDED = entry_key(OPERATOR, "begin", 0, 1, FOUR)
 
 def registration(poster: str, number: int, until: int = 5) -> str:
     return entry_key(poster, REGISTER, number.to_bytes(32, "big").hex(), until)
+
+
+async def found(etcd: Etcd) -> None:
+    """Appends the first committee as a recorder would if its nodes, which do not exist, had told their addresses."""
+    made = recording.Recorder(etcd)
+    while not made.ledger.now:
+        with contextlib.suppress(Failed):  # etcd has just been started
+            await made.catch_up()
+            if not made.ledger.now:
+                await made.step(Batch(made.chain, [FOUNDED]))
+        await asyncio.sleep(0.05)
+    made.state.close()
 
 
 class Listed(Owed):
@@ -66,6 +78,9 @@ class LedgerCase(unittest.IsolatedAsyncioTestCase):
             for name in self.local.recorders:
                 await self.record(RecorderSettings.read(self.folder / f"{name}.toml"))
         self.operator, self.publisher = self.user(OPERATOR), self.user("publisher")
+        etcd = recording.etcd_of(RecorderSettings.read(self.folder / "recorder-0.toml"))
+        await found(etcd)
+        await etcd.aclose()
         await self.operator.post(FOUNDED)
 
     async def copy_certificates(self) -> None:
@@ -155,6 +170,11 @@ class Plain(Blobs):
     def expire(self, epoch: int) -> "collections.Counter[str]":
         self.kept = {identifier: blob for identifier, blob in self.kept.items() if blob.until > epoch}
         return self.posters()
+
+    def release(self, name: str, gone: Collection[str], last: int) -> None:
+        for identifier, blob in [*self.items()]:
+            if blob.poster == name and blob.until > last:
+                self.kept[identifier] = blob.without(gone, last)
 
     def posters(self) -> "collections.Counter[str]":
         return collections.Counter(blob.poster for blob in self.values())
@@ -284,4 +304,4 @@ class Memory(Etcd):
         return found
 
 
-__all__ = ["FOUNDED", "FOUR", "Chain", "LedgerCase", "Memory", "Plain", "registration"]
+__all__ = ["FOUNDED", "FOUR", "Chain", "LedgerCase", "Memory", "Plain", "found", "registration"]

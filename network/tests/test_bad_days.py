@@ -202,8 +202,8 @@ class BadDays(NetworkCase):
         faked = faked_clock(offset)
         if not faked:
             self.skipTest("faketime is not here")
-        await self.local.up(FOUR[:3], owners=FOUR)
-        await self.local.add_node("node-3")
+        await self.local.up(FOUR)
+        await self.local.end("node-3")
         await self.local.start_node("node-3", environment=faked)
         async with self.local.network() as network:
             for jump in ("+40d", "-40d", "+3000s", "+0"):

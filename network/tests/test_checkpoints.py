@@ -8,13 +8,14 @@ import tempfile
 import unittest
 from unittest import mock
 
-from ledger_case import FOUNDED, FOUR, Chain, LedgerCase, Memory, registration
+from ledger_case import FOUNDED, FOUR, Chain, LedgerCase, Memory, found, registration
 from walrus.network import etcd, keeping, recorder
 from walrus.network.blobs import Blob
 from walrus.network.entries import OPERATOR, entry_key
 from walrus.network.etcd import FIRST, LAST, PIECES, coded
 from walrus.network.follower import Parted, View
 from walrus.network.keeping import Keeper
+from walrus.network.ledger import Ledger
 from walrus.network.state import State
 
 NODES = FOUR.split(",")
@@ -188,6 +189,7 @@ class Short(unittest.IsolatedAsyncioTestCase):
         self.addCleanup(made.state.close)
         self.enterContext(mock.patch.object(keeping.time, "time", lambda: now[0]))
         keeper = Keeper(made, 30.0)
+        await found(memory)
         await made.catch_up()
         for epoch in range(10):
             texts = [*(turn(epoch) if epoch else [FOUNDED]), registration("publisher", epoch, 99)]
@@ -206,10 +208,11 @@ class Short(unittest.IsolatedAsyncioTestCase):
 
 class Steps(unittest.IsolatedAsyncioTestCase):
     """Keepers over an etcd in memory, each call of which fails in turn, with recorders that end at any step. Some have
-    their state in files."""
+    their state in files. Nodes, which do not exist, count as if they had told their addresses."""
 
     async def asyncSetUp(self) -> None:
         asyncio.get_running_loop().set_debug(False)
+        self.enterContext(mock.patch.object(Ledger, "no_nodes", lambda *_: []))
 
     sleep = staticmethod(asyncio.sleep)
 

@@ -88,7 +88,8 @@ class Lists(GuardCase):
 
     async def test_what_ends_after_the_last_year_is_told_without_a_date(self) -> None:
         await self.start()
-        await self.network.register(bytes(32), 65_536)  # as anybody may
+        place = await self.operator.post(entry_key(OPERATOR, "register", bytes(32).hex(), 65_536))  # as nobody else may
+        self.assertTrue(await self.network.until(lambda it: it.revision >= place))
         await self.plan(0, 29_900_000, 90 * 1_440)
         for path, name in (("/v1/status", "recent"), ("/v1/blobs", "blobs")):
             status, _, told = await self.ask("GET", path)

@@ -1,5 +1,6 @@
 """The rules of the ledger, compared with the lines that the proved core prints for the same entries."""
 import asyncio
+import contextlib
 import json
 import os
 import random
@@ -26,7 +27,11 @@ class Rules(RulesCase):
         seen = set()
         for seed in range(30):
             steps = harness.trace_run.Trace({}, faulty="abcde")  # their word counts, whatever they hold
-            found = [step for it in random_entries(random.Random(seed), COMMITTEES) for step in steps.enter(it)]
+            drawn = random_entries(random.Random(seed), COMMITTEES)
+            known = [
+                it for it in drawn if it.words[1] != "expel"
+            ]  # after which blobs end, which the core does not know
+            found = [step for it in known for step in steps.enter(it)]
             text = json.dumps({**steps.head, "events": [step.event for step in found]}).encode()
             ran = subprocess.run([find_program(), "replay"], input=text, stdout=subprocess.PIPE)
             self.assertEqual((ran.returncode, ran.stdout.decode().splitlines()), (0, [step.line for step in found]))
@@ -68,6 +73,48 @@ class Rules(RulesCase):
         for key in ("a/address/::1/7", "a/address/host.example/65535", f"{OPERATOR}/share/b/9", f"{OPERATOR}/expel/a"):
             self.assertEqual(ledger.apply(Entry(6, key)), "entered", key)
         self.assertEqual((ledger.addresses, ledger.shares), ({"a": ("host.example", 65_535)}, {"b": 9}))
+
+    def test_nobody_but_the_operator_keeps_a_blob_for_more_than_a_thousand_epochs(self) -> None:
+        """A recorder takes no such entry; those that are in a ledger count."""
+        ledger = Ledger()
+        ledger.apply(Entry(1, entry_key(OPERATOR, "begin", 0, 1, "a,b,c,d")))
+        entry = [
+            Entry(2, f"{name}/register/{'00' * 32}/{until}") for name in ("x", OPERATOR) for until in (1_000, 1_001)
+        ]
+        said = [ledger.fork().refused(it) for it in entry]
+        self.assertEqual(said, ["", "a blob is kept for at most 1000 epochs, so now until epoch 1000", "", ""])
+        self.turn(ledger, 1)
+        self.assertEqual([ledger.fork().refused(it) for it in entry], [""] * 4)
+        self.assertEqual(ledger.apply(Entry(9, f"x/register/{'00' * 32}/65536")), "until 65536")
+
+    def test_what_only_expelled_names_keep_ends_with_the_next_epoch(self) -> None:
+        """What others keep too stays for as long as they want, in whatever order they came, and for nobody longer."""
+        for moving in (False, True):
+            with self.subTest(moving=moving), contextlib.closing(State()) as kept:
+                ledger, names = kept.ledger, [f"{number:064x}" for number in range(6)]
+                texts = [entry_key(OPERATOR, "begin", 0, 1, "a,b,c,d")]
+                for name, keepers in zip(names, ("x900", "x900 y5", "y5 x900", "x2 y900", "x900 z800 y5", "x1")):
+                    texts += [entry_key(it[0], "register", name, it[1:]) for it in keepers.split()]
+                texts += [entry_key(OPERATOR, "begin", 1, 1, "a,b,c,d")] * moving
+                texts += [entry_key(OPERATOR, "expel", name) for name in "zx"]
+                for place, text in enumerate(texts, 1):
+                    self.assertTrue(ledger.apply(Entry(place, text)), text)
+                last = 1 + moving
+                known = [(it.until, it.poster) for it in map(ledger.blobs.__getitem__, map(bytes.fromhex, names))]
+                wanted = [(last, "x"), (5, "y"), (5, "y"), (900, "y"), (5, "y"), (1, "x")]
+                self.assertEqual(known, wanted)
+                kept.save(Chain(len(texts), bytes(32)))
+                with contextlib.closing(State()) as taken:
+                    asyncio.run(taken.take([zlib.compress(it) for it in kept.written()]))
+                    self.same(ledger, taken.ledger)
+                for epoch in range(1, last + 1):
+                    if epoch == 1 and moving:
+                        for text in [*(entry_key(it, "ready", 1) for it in "abc"), entry_key("a", "finish", 1)]:
+                            ledger.apply(Entry(ledger.revision + 1, text))
+                    else:
+                        self.turn(ledger, epoch)
+                self.assertEqual(sorted(it.hex() for it in ledger.blobs), names[1:5])
+                self.assertEqual(ledger.posted, {"y": 4})
 
     @mock.patch.object(rules, "ROOM", 1_000)
     def test_a_poster_has_its_share_and_no_more(self) -> None:

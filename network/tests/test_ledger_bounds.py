@@ -9,7 +9,7 @@ import zlib
 from typing import Any, Mapping
 from unittest import mock
 
-from ledger_case import FOUNDED, FOUR, Chain, LedgerCase, Memory, registration
+from ledger_case import FOUNDED, FOUR, Chain, LedgerCase, Memory, found, registration
 from walrus import client
 from walrus.frames import answer
 from walrus.network import blobs, checkpoint, intake, keeping, recorder, recording, shard
@@ -50,6 +50,7 @@ class Waits(unittest.IsolatedAsyncioTestCase):
         self.recorder = recorder.Recorder(self.memory)
         self.addCleanup(self.recorder.state.close)
         self.keeper = Keeper(self.recorder, 1e9)
+        await found(self.memory)
         await self.recorder.catch_up()
         await self.post(FOUNDED, *turn(1))
         await self.keeper.look()
@@ -254,7 +255,7 @@ class Votes(unittest.TestCase):
         for seed in range(4):
             lean, whole, chain = State(), State(), Chain(0, bytes(32))
             for place, text in enumerate(self.history(random.Random(seed)), 1):
-                with mock.patch.object(blobs, "counting", uncounted):
+                with mock.patch("walrus.network.blob.counting", uncounted):
                     line = whole.ledger.apply(Entry(place, text))
                 self.assertEqual(lean.ledger.apply(Entry(place, text)), line)
                 self.assertEqual(self.asked(lean.ledger), self.asked(whole.ledger))

@@ -9,10 +9,10 @@ import tempfile
 import threading
 import time
 import unittest
-from typing import Any
+from typing import Any, Optional
 from unittest import mock
 
-from ledger_case import FOUNDED, Chain, LedgerCase, Memory, registration
+from ledger_case import FOUNDED, Chain, LedgerCase, Memory, found, registration
 from walrus import client
 from walrus.network import certificates, recorder, recording
 from walrus.network.entries import ADDRESS, Entry, entry_key
@@ -34,6 +34,7 @@ class Waiting(unittest.IsolatedAsyncioTestCase):
         quiet = self.enterContext(contextlib.redirect_stderr(io.StringIO()))
         self.assertEqual(quiet.getvalue(), "")
         self.enterContext(mock.patch.object(recorder, "POLL", 0.01))
+        await found(self.etcd)
         self.addCleanup(asyncio.create_task(self.made.run()).cancel)
         self.assertEqual(await self.made.post([FOUNDED]), [1])
         self.etcd.plan = {call: "before" for call in range(self.etcd.calls + 1, self.etcd.calls + 100_000)}
@@ -89,7 +90,7 @@ class Bodies(unittest.IsolatedAsyncioTestCase):
             return asyncio.gather()
 
         async def post(name: str) -> None:
-            request = mock.MagicMock(read=mock.AsyncMock(return_value=b'["ready/1"]'))
+            request = mock.MagicMock(read=mock.AsyncMock(return_value=b'["ready/1"]'), content_length=11)
             request.__getitem__.return_value = name
             self.assertEqual((await service.post(request)).status, 200)
 
@@ -99,6 +100,36 @@ class Bodies(unittest.IsolatedAsyncioTestCase):
         own = [times for name, *times in taken if name == "mallory"]
         for (begun, end), (later, _) in zip(own, own[1:]):
             self.assertGreaterEqual(later - end, 0.99 * (end - begun))
+
+    async def test_of_the_long_bodies_of_a_name_one_is_in_memory(self) -> None:
+        """Otherwise whoever sends many at once has all of them in the recorder's memory. Short ones, and those of
+        others, are read meanwhile."""
+        made = Recorder(Memory())
+        self.addCleanup(made.state.close)
+        service, goes_on, reads = recording.Service(made, mock.Mock()), asyncio.Event(), list[str]()
+
+        def post(name: str, length: Optional[int], waits: bool) -> "asyncio.Task[object]":
+            async def read() -> bytes:
+                reads.append(name)
+                await (goes_on.wait() if waits else asyncio.sleep(0))
+                return b"[]"
+
+            request = mock.MagicMock(read=read, content_length=length)
+            request.__getitem__.return_value = name
+            return asyncio.create_task(service.post(request))
+
+        lengths = [recording.MOST_BODY, 65_537, None, recording.MOST_BODY]
+        long = [post("mallory", length, True) for length in lengths]
+        await asyncio.sleep(0.01)
+        self.assertEqual(reads, ["mallory"])
+        others = [post("mallory", 65_536, False), post("publisher", recording.MOST_BODY, False)]
+        async with asyncio.timeout(60):
+            await asyncio.gather(*others)
+        self.assertEqual((sorted(reads), sum(it.done() for it in long)), (["mallory", "mallory", "publisher"], 0))
+        goes_on.set()
+        async with asyncio.timeout(60):
+            await asyncio.gather(*long)
+        self.assertEqual(reads.count("mallory"), 5)
 
 
 class Places(unittest.IsolatedAsyncioTestCase):

@@ -1,6 +1,7 @@
 """The state of a ledger in a database: at each place, start and checkpoint, and with a disk that is full or damaged."""
 import asyncio
 import contextlib
+import hashlib
 import io
 import json
 import pathlib
@@ -8,6 +9,7 @@ import random
 import sqlite3
 import tempfile
 import time
+import tracemalloc
 import unittest
 import zlib
 from typing import Any, Optional
@@ -62,6 +64,17 @@ class States(RulesCase):
                 for each in (whole, *others):
                     each.close()
 
+    def test_pieces_that_come_are_on_the_disk_and_not_in_memory(self) -> None:
+        pieces, gathered = [zlib.compress(random.randbytes(1_000_000)) for _ in range(30)], checkpoint.Pieces()
+        self.addCleanup(gathered.clear)
+        tracemalloc.start()
+        self.addCleanup(tracemalloc.stop)
+        for piece in pieces:
+            gathered.add(piece)
+        for piece, found in zip(pieces, gathered, strict=True):
+            self.assertEqual(found, piece)
+        self.assertLess(tracemalloc.get_traced_memory()[1], 6_000_000)
+
     def test_what_is_taken_replaces_all_and_tells_what_is_no_more(self) -> None:
         one, other, chain = State(tail=2), State(), Chain(0, bytes(32))
         names = [number.to_bytes(32, "big").hex() for number in range(3)]
@@ -71,9 +84,16 @@ class States(RulesCase):
                 each.ledger.apply(Entry(place, entry_key("x", "register", name, 2)))
             each.save(chain.behind(kept))
         pieces = [zlib.compress(it) for it in other.written()]
-        with self.assertRaisesRegex(ValueError, "a piece of the checkpoint is damaged"):
-            checkpoint.state_of([pieces[0][:-9]])
-        self.assertNotEqual(checkpoint.state_of(pieces), checkpoint.state_of(pieces * 2))
+        gathered = checkpoint.Pieces()
+        self.addCleanup(gathered.clear)
+        for piece in pieces * 2:
+            for wrong in (piece[:-9], piece + b"\0", b"?" + piece):
+                with self.assertRaisesRegex(checkpoint.Unfit, "a piece of the checkpoint is damaged"):
+                    gathered.add(wrong)
+            gathered.add(piece)
+            self.assertEqual(len([*gathered]), len(gathered))
+        text = b"".join(map(zlib.decompress, pieces))
+        self.assertEqual(([*gathered], gathered.state), (pieces * 2, hashlib.sha256(text * 2).hexdigest()))
         asyncio.run(one.take(pieces))
         self.assertEqual(one.blobs.over(9), [])  # its time is not over, so its parts are not dropped before that
         self.assertNotIn(bytes.fromhex(names[0]), one.blobs)

@@ -44,6 +44,35 @@ class Moves(unittest.IsolatedAsyncioTestCase):
         moving.cancel()
         self.assertIn(settled, range(2, 9))
 
+    async def test_a_node_is_not_ready_before_the_epoch_has_its_least_length(self) -> None:
+        clock, posted = asyncio.get_running_loop().time, list[tuple[str, float]]()
+        ledger: Any = types.SimpleNamespace(epoch=0, moving=True, ready=frozenset(), quorum=3, revision=0)
+        ledger.must_hold, begun, waiting = list, clock(), Waiting()
+
+        class Age:
+            @property
+            def seconds(self) -> float:
+                return clock() - begun
+
+        async def post(text: str) -> None:
+            posted.append((text, clock() - begun))
+            ledger.moving = False
+
+        async def until(holds: Any, seconds: float) -> None:
+            await waiting.until(lambda: holds(ledger), seconds)
+
+        node: Any = types.SimpleNamespace(
+            ledger=ledger, name="a", sides={1: {0: None}}, until=until, state=types.SimpleNamespace(begun=Age())
+        )
+        node.settings, node.recorders = types.SimpleNamespace(least=1.0), types.SimpleNamespace(post=post)
+        self.enterContext(mock.patch.object(handover, "settle", mock.AsyncMock(return_value=0)))
+        with contextlib.redirect_stderr(io.StringIO()) as said:
+            await asyncio.wait_for(handover.move(node), 60)
+        [(text, seconds)] = posted
+        self.assertEqual(text, "a/ready/1")
+        self.assertGreaterEqual(seconds, 1.0)
+        self.assertIn("a: epoch 1: epoch 0 lasts at least 1 s by this clock, so ready in 1 s\n", said.getvalue())
+
 
 class Cancelled(unittest.IsolatedAsyncioTestCase):
     async def test_the_own_shard_answers_to_its_end_though_nobody_waits(self) -> None:

@@ -172,10 +172,11 @@ class Story(NetworkCase):
         for name in [*FOUR, "node-4"]:
             await self.local.add_node(name)
         async with self.local.network(ledger.OPERATOR) as operator, self.local.network() as network:
-            await operator.begin(1, FOUR)
             self.faulty = {"node-1"}
             for name in [*FOUR, "node-4"]:
                 await self.local.start_node(name, ODD if name in self.faulty else [], {"ODD_LIES": "1"})
+            await operator.begin(1, FOUR)
+            self.assertTrue(await network.until(lambda it: it.now))
             for size in (0, 100, 3_000):
                 await self.store(network, size)
             for _ in range(5):
@@ -191,10 +192,11 @@ class Story(NetworkCase):
         for name in FOUR:
             await self.local.add_node(name)
         async with self.local.network(ledger.OPERATOR) as operator, self.local.network() as network:
-            await operator.begin(1, FOUR)
             self.faulty = {"node-1"}
             for name in FOUR:
                 await self.local.start_node(name, ODD if name in self.faulty else [], {"ODD_SILENT": "1"})
+            await operator.begin(1, FOUR)
+            self.assertTrue(await network.until(lambda it: it.now))
             await self.store(network)
             await self.local.end("node-3", kill=True)
             for size in (0, 100, 3_000, 100_000):

@@ -13,9 +13,10 @@ import unittest
 from typing import Any
 from unittest import mock
 
-from ledger_case import FOUNDED, Memory, registration
+from ledger_case import FOUNDED, Memory, found, registration
 from walrus.network import certificates, keeping, recorder, recording, state
 from walrus.network.entries import ADDRESS, Chain, entry_key
+from walrus.network.ledger import Ledger
 from walrus.network.etcd import Batch
 from walrus.network.settings import RecorderSettings
 from walrus.network.waiting import Waiting
@@ -41,6 +42,7 @@ class FullDisk(unittest.IsolatedAsyncioTestCase):
             with mock.patch.object(state.sqlite3, "connect", lambda *it, **to: connect(*it, **to, factory=Full)):
                 kept = state.State(f"{folder}/kept")
             made = recorder.Recorder(Memory(), kept)
+            await found(made.etcd)
             running = asyncio.create_task(made.run())
             self.assertEqual(await made.post([FOUNDED]), [1])
             full = True
@@ -121,6 +123,7 @@ class Heads(unittest.IsolatedAsyncioTestCase):
                 self.tasks.append(asyncio.create_task(made.run()))
                 self.addCleanup(self.tasks[-1].cancel)
                 self.assertTrue(await made.news.until(lambda made=made: made.state.identity, 10))
+            await found(self.etcd)
             self.assertEqual(await self.recorders[0].post([FOUNDED]), [1])
         for made in self.recorders:
             self.assertTrue(await made.news.until(lambda made=made: made.chain.place == 1, 10))
@@ -195,10 +198,12 @@ class Waits(unittest.IsolatedAsyncioTestCase):
 
 
 class Steps(unittest.IsolatedAsyncioTestCase):
-    """Recorders over an etcd in memory, each call of which fails in turn, before or after it takes effect."""
+    """Recorders over an etcd in memory, each call of which fails in turn, before or after it takes effect. Its nodes,
+    which do not exist, count as if they had told their addresses."""
 
     async def asyncSetUp(self) -> None:
         asyncio.get_running_loop().set_debug(False)
+        self.enterContext(mock.patch.object(Ledger, "no_nodes", lambda *_: []))
 
     async def run_one(self, etcd: Memory, texts: list[str], recorders: list[recorder.Recorder]) -> None:
         """Posts each entry until a recorder returns its place, which must stay the same."""

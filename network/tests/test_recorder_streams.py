@@ -8,6 +8,7 @@ import pathlib
 import shutil
 import ssl
 import tempfile
+import tracemalloc
 import unittest
 import zlib
 from unittest import mock
@@ -72,7 +73,7 @@ class Streams(LedgerCase):
         self.streams += [(200, [self.first(one), {"entries": ["b/ready/1"], "digest": two.digest.hex()}])]
         found = list[Entry]()
         with mock.patch.object(follower.asyncio, "sleep", mock.AsyncMock()):
-            async with contextlib.aclosing(self.recorders.follow(None)) as following:  # type: ignore[type-var]
+            async with contextlib.aclosing(self.recorders.follow(None)) as following:
                 async for news in following:
                     found += news.entries
                     if news.chain.place == 2:
@@ -93,6 +94,85 @@ class Streams(LedgerCase):
                 await asyncio.wait_for(view.follow(), 20)
             with self.assertRaisesRegex(Unreachable, "the ledger is not followed any more: " + said.strip("^$")):
                 await waits
+
+    async def heard(self, view: View, place: int) -> None:
+        """Follows until this place is heard, with short pauses."""
+        real = asyncio.sleep
+        with mock.patch.object(follower.asyncio, "sleep", lambda seconds, *it: real(min(seconds, 0.01), *it)):
+            task = asyncio.create_task(view.follow())
+            self.assertTrue(await view.until(lambda _: view.chain and view.chain.place >= place, 60))
+            task.cancel()
+            await asyncio.gather(task, return_exceptions=True)
+
+    def packed(self, made: State, chain: Chain) -> tuple[dict[str, object], list[dict[str, str]]]:
+        """What a recorder says of a checkpoint of a state, and the lines of its pieces."""
+        pieces = [*made.written()]
+        told = self.first(chain) | {"head": chain.place, "place": chain.place, "pieces": len(pieces)}
+        told["state"] = hashlib.sha256(b"".join(pieces)).hexdigest()
+        return told, [{"piece": base64.b64encode(zlib.compress(it)).decode()} for it in pieces]
+
+    def state(self, count: int) -> tuple[State, list[str], Chain]:
+        """Returns the state after a number of entries, the entries, and their chain."""
+        made, texts = State(), [FOUNDED, *(registration("x", it) for it in range(count - 1))]
+        self.addCleanup(made.close)
+        for entry in self.birth.followed(texts):
+            made.ledger.apply(entry)
+        made.identity, chain = "00" * 32, self.birth.behind(texts)
+        made.save(chain)
+        return made, texts, chain
+
+    async def test_nothing_behind_what_was_heard_is_taken(self) -> None:
+        """A recorder with an older checkpoint would have its followers give up what was acknowledged since, and nodes
+        their parts."""
+        (_, texts, end), (older, _, before), more = self.state(25), self.state(5), registration("y", 99)
+        begun = self.first(self.birth) | {"head": end.place}
+        heard = [begun, {"entries": texts, "digest": end.digest.hex()}]
+        told, parts = self.packed(older, before)
+        odd = told | {"digest": "11" * 32}
+        goes_on = self.first(end) | {"head": end.place}
+        last = [goes_on, {"entries": [more], "digest": end.behind([more]).digest.hex()}]
+        for tail, lines in ((0, [told, *parts]), (0, [odd, *parts]), (2, [told, *parts])):
+            with self.subTest(tail=tail, digest=lines[0]["digest"]):
+                view = View(self.user("publisher"), State(tail=tail))
+                self.addCleanup(view.state.close)
+                self.streams, self.asked = [(200, heard), (200, lines), (200, [*last, 9.0])], []
+                await self.heard(view, end.place + 1)
+                self.assertEqual(self.asked, [0, 25, 25])
+                self.assertEqual((len(view.ledger.blobs), view.ledger.revision), (25, end.place + 1))
+        view = View(self.user("publisher"), State(tail=2))  # which knows the digest that there was
+        self.addCleanup(view.state.close)
+        self.streams = [(200, heard), (200, [odd, *parts])]
+        with self.assertRaisesRegex(Parted, "^the ledger's first 5 entries are others than were heard before: "):
+            await asyncio.wait_for(view.follow(), 60)
+        self.assertEqual(len(view.ledger.blobs), 24)
+
+    async def test_what_is_no_checkpoint_is_not_taken_and_costs_nothing(self) -> None:
+        """Another recorder is asked then, and what was heard before stays."""
+        (_, texts, end), (later, _, last), (other, _, _) = self.state(5), self.state(9), self.state(7)
+        begun = self.first(self.birth) | {"head": end.place}
+        told, parts = self.packed(later, last)
+        bomb, packing = bytearray(), zlib.compressobj(9)
+        for _ in range(300):
+            bomb += packing.compress(bytes(1_000_000))
+        bomb += packing.flush()
+        self.assertLess(len(bomb), 300_000)
+        cut = zlib.compress(b'["faults",1]\n[7]\n')
+        wrong = [[told | {"state": ""}, {"piece": base64.b64encode(bomb).decode()}]]
+        wrong += [[told | {"pieces": 10**9}, *parts], [told | {"pieces": 0}], [told | {"pieces": -1}]]
+        wrong += [[told | {"state": self.packed(other, last)[0]["state"]}, *self.packed(other, last)[1]]]
+        digest = hashlib.sha256(zlib.decompress(cut)).hexdigest()
+        wrong += [[told | {"state": digest}, {"piece": base64.b64encode(cut).decode()}]]
+        self.streams = [(200, [begun, {"entries": texts, "digest": end.digest.hex()}])]
+        self.streams += [*((200, lines) for lines in wrong), (200, [told, *parts, 9.0])]
+        view = View(self.user("publisher"))
+        self.addCleanup(view.state.close)
+        self.asked = []
+        tracemalloc.start()
+        self.addCleanup(tracemalloc.stop)
+        await self.heard(view, last.place)
+        self.assertLess(tracemalloc.get_traced_memory()[1], 20_000_000)
+        self.assertEqual(self.asked, [0, *[5] * (len(wrong) + 1)])
+        self.assertEqual([*view.state.written()], [*later.written()])
 
     async def test_who_begins_to_follow_waits_for_as_long_as_more_comes(self) -> None:
         """A recorder may send a checkpoint or entries for longer than any deadline. One that stops, or breaks off at

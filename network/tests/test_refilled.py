@@ -33,7 +33,7 @@ class Refilled(NetworkCase):
                     self.assertTrue(await operator.until(lambda it, each=each: it.epoch == each, 60), self.logs())
                 await self.store(network, 3_000)
                 for _ in range(300):  # until entries are dropped that the node has not heard
-                    async with contextlib.aclosing(network.recorders.follow(before)) as news:  # type: ignore[type-var]
+                    async with contextlib.aclosing(network.recorders.follow(before)) as news:
                         if (await anext(news)).pieces:
                             break
                     await asyncio.sleep(0.1)

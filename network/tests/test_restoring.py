@@ -12,7 +12,7 @@ from unittest import mock
 
 from ledger_case import FOUNDED, FOUR, LedgerCase, Memory, registration
 from walrus.network import restoring
-from walrus.network.entries import ACK, OPERATOR, Chain, Entry, entry_key
+from walrus.network.entries import ACK, ADDRESS, OPERATOR, Chain, Entry, entry_key
 from walrus.network.etcd import Batch, Failed
 from walrus.network.follower import View
 from walrus.network.recorder import Broken, Recorder
@@ -203,6 +203,7 @@ class Restored(LedgerCase):
         for name in later:
             await self.newcomer(name)
             self.follow(name)
+            await self.views[name].recorders.post(entry_key(name, ADDRESS, "127.0.0.1", 1))
         await self.operator.post(entry_key(OPERATOR, "begin", 1, 1, ",".join(later)))
         for text in [*(entry_key(it, "ready", 1) for it in later[:3]), entry_key(later[0], "finish", 1)]:
             await self.views[text.partition("/")[0]].recorders.post(text)

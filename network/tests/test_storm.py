@@ -37,8 +37,9 @@ class Storm(StormCase):
             await self.local.add_node(name)
         self.small = self.small_disk(CRAMPED, "512m")
         async with self.local.network(seconds=4) as network, self.local.network(ledger.OPERATOR) as operator:
-            await operator.begin(1, [NODES[it] for it in COMMITTEES[0]])
             await asyncio.gather(*(self.start(name) for name in NODES))
+            await operator.begin(1, [NODES[it] for it in COMMITTEES[0]])
+            self.assertTrue(await network.until(lambda it: it.now))
             await self.rage(network, operator)
             self.assertTrue(await network.until(lambda it: not it.moving, PATIENCE), self.logs())
             await self.reads_live(network)

@@ -26,7 +26,7 @@ EVENTS = (REGISTER, ACK, ATTEST, "begin", "ready", "finish")  # entries that the
 
 
 class TooLong(Exception):
-    """A run that `walrus replay` cannot take."""
+    """A run that `walrus replay` cannot take, as it is too long, or a name was expelled that kept blobs."""
 
 
 class Parted(Exception):
@@ -115,6 +115,8 @@ class Trace:
 
     def enter(self, entry: Entry) -> Iterator[Step]:
         """The event of an entry; none of one that is void."""
+        if entry.words[1:2] == ["expel"] and self.ledger.blobs.posters()[entry.words[2]]:
+            raise TooLong(f"{entry.words[2]} was expelled and kept blobs, which the core would keep for longer")
         before, word = self.ledger.now, self.ledger.apply(entry)
         if word is None or entry.words[1] not in EVENTS:
             return

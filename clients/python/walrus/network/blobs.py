@@ -1,15 +1,16 @@
 """The live blobs of a ledger, in SQLite: who registered them, and which shards acknowledged or attested them."""
 import collections
 import contextlib
-import dataclasses
 import itertools
-import json
 import random
 import sqlite3
 from typing import Collection, Iterable, Iterator, Mapping, Optional
 
+from .blob import Blob, blob_of, shards_in, text_of, without_past
 from .checkpoint import Row
 from .entries import ACK, ATTEST
+
+__all__ = ["Blob", "Blobs", "Over", "Owed", "shards_in"]
 
 CACHED = 8_192  # blobs that are kept in memory
 # Triggers of SQLite count each poster's blobs by the epoch until which they are kept: an epoch change reads no blob.
@@ -18,6 +19,9 @@ COUNT = """INSERT INTO counts VALUES (new.until, new.poster, 1, new.certified NO
     invalid = invalid + excluded.invalid"""
 COUNT_ALL = """INSERT INTO counts SELECT until, poster, count(*), count(certified), count(invalid) FROM blobs
     GROUP BY until, poster"""
+MOVE_COUNTS = """INSERT INTO counts SELECT ?, poster, sum(registered), sum(certified), sum(invalid) FROM counts
+    WHERE poster = ? AND until > ? GROUP BY poster ON CONFLICT DO UPDATE SET registered = registered +
+    excluded.registered, certified = certified + excluded.certified, invalid = invalid + excluded.invalid"""
 UNCOUNT = """UPDATE counts SET registered = registered - 1, certified = certified - (old.certified NOTNULL),
     invalid = invalid - (old.invalid NOTNULL) WHERE until = old.until AND poster = old.poster"""
 TABLES = (
@@ -38,63 +42,6 @@ PUT = """INSERT INTO blobs VALUES (?, ?, ?, ?, ?, ?, ?) ON CONFLICT DO UPDATE SE
     certified = excluded.certified, invalid = excluded.invalid"""
 ENDING = """SELECT identifier FROM blobs WHERE identifier > ? AND until > ? AND until <= ?
     ORDER BY identifier LIMIT ?"""
-Votes = Mapping[int, int]  # by epoch, the shards that voted, as the bits of a number: for a thousand a set takes 33 kB
-
-
-@dataclasses.dataclass(frozen=True)
-class Blob:
-    """A live blob: the epoch until which it is kept, the poster that keeps it for so long, and by kind and epoch the
-    shards that acknowledged it or attested that it is badly encoded."""
-
-    until: int
-    poster: str
-    votes: Mapping[str, Votes] = dataclasses.field(default_factory=lambda: {ACK: {}, ATTEST: {}})
-
-    def quorum(self, kind: str, needed: int) -> Optional[tuple[int, int]]:
-        """Returns the first epoch in which `needed` shards or more voted so, and their number; or None."""
-        for epoch, shards in sorted(self.votes[kind].items()):
-            if (count := shards.bit_count()) >= needed:
-                return epoch, count
-        return None
-
-    def voted(self, kind: str, epoch: int, shards: int, needed: int) -> "Blob":
-        """Returns this blob with the votes of these shards added and those dropped that no longer count. `needed`
-        shards are a quorum."""
-        votes = {**self.votes[kind], epoch: self.votes[kind].get(epoch, 0) | shards}
-        first = min((it for it, said in votes.items() if said.bit_count() >= needed), default=None)
-        return Blob(self.until, self.poster, {**self.votes, kind: counting(votes, first)})
-
-
-def counting(votes: Votes, first: Optional[int]) -> Votes:
-    """Returns those votes of a kind that the rules may still ask for: the ones of `first`, the first epoch with a
-    quorum, and of the last epoch with votes and the one before, which may be those of both committees. Earlier epochs
-    get no more votes, and so no quorum. The result depends on the votes alone: whether the others are dropped with each
-    vote or all at the end, it is the same."""
-    return {epoch: said for epoch, said in votes.items() if epoch == first or epoch >= max(votes) - 1}
-
-
-def shards_in(bits: int) -> list[int]:
-    """Returns the shards that are the bits of a number, in order."""
-    return [shard for shard in range(bits.bit_length()) if bits >> shard & 1]
-
-
-def blob_of(until: int, poster: str, votes: str) -> Blob:
-    acks, attests = ({int(epoch): bits for epoch, bits in it.items()} for it in json.loads(votes))
-    return Blob(until, poster, {ACK: acks, ATTEST: attests})
-
-
-def text_of(votes: Mapping[str, Votes]) -> str:
-    return json.dumps([dict(sorted(votes[kind].items())) for kind in (ACK, ATTEST)], separators=(",", ":"))
-
-
-def without_past(row: Row) -> Row:
-    """Returns a row of a checkpoint without votes that no longer count, which earlier versions wrote too."""
-    identifier, number, until, poster, votes, certified, invalid = row
-    if votes.count(":") < 2:  # all are of one epoch, as nearly always
-        return row
-    said = blob_of(until, poster, votes).votes
-    votes = text_of({ACK: counting(said[ACK], certified), ATTEST: counting(said[ATTEST], invalid)})
-    return identifier, number, until, poster, votes, certified, invalid
 
 
 def ending_of(name: str, *words: object) -> list[bytes]:
@@ -154,7 +101,7 @@ class Blobs(Mapping[bytes, Blob]):
     def row(self, identifier: bytes, number: int) -> Row:
         blob = self[identifier]
         first = [(blob.quorum(kind, self.needed) or (None,))[0] for kind in (ACK, ATTEST)]
-        return identifier, number, blob.until, blob.poster, text_of(blob.votes), first[0], first[1]
+        return identifier, number, blob.until, blob.poster, text_of(blob.votes, blob.others), first[0], first[1]
 
     def names(self, words: str, *values: object) -> list[bytes]:
         """Returns the identifiers of the blobs for which an SQL condition holds."""
@@ -184,6 +131,19 @@ class Blobs(Mapping[bytes, Blob]):
         self.flush().execute("DELETE FROM counts WHERE until <= ?", (epoch,))
         self.epoch = epoch
         return self.posters()
+
+    def release(self, name: str, gone: Collection[str], last: int) -> None:
+        """Ends what a poster keeps beyond epoch `last` with that epoch, unless somebody who is not `gone` keeps it for
+        longer."""
+        for identifier in self.names("poster = ? AND until > ? AND json_array_length(votes) > 2", name, last):
+            self[identifier] = self[identifier].without(gone, last)
+        base = self.flush()
+        base.execute("DROP TRIGGER changed")  # all are counted at once, as they may be many
+        base.execute("UPDATE blobs SET until = ? WHERE poster = ? AND until > ?", (last, name, last))
+        base.execute(MOVE_COUNTS, (last, name, last))
+        base.execute("DELETE FROM counts WHERE poster = ? AND until > ?", (name, last))
+        self.make()
+        self.forget()
 
     def over(self, count: int) -> list[bytes]:
         """Returns up to `count` blobs that are over by their own time and still have a row."""
@@ -279,6 +239,9 @@ class Over(Blobs):
 
     def __setitem__(self, identifier: bytes, blob: Blob) -> None:
         self.kept[identifier] = blob
+
+    def release(self, name: str, gone: Collection[str], last: int) -> None:
+        """Does nothing: nothing is tried over these blobs after that."""
 
     def expire(self, epoch: int) -> "collections.Counter[str]":
         return collections.Counter()

@@ -3,16 +3,25 @@
 Its lines are JSON: `[NAME, VALUE]` and `[NAME, KEY, VALUE]` for the state beside blobs, and then, in the order of
 identifiers, `[IDENTIFIER, NUMBER, UNTIL, POSTER, VOTES, CERTIFIED, INVALID]` for each blob. From the same ledger every
 recorder makes the same pieces."""
+import contextlib
 import hashlib
 import json
+import sqlite3
+import tempfile
 import zlib
 from typing import Any, Iterable, Iterator, NamedTuple, Optional
 
 from .entries import Chain
 
 LONGEST = 1_048_576  # bytes of a piece before it is compressed
+MOST_PIECES = 65_536  # of a checkpoint: more than any etcd has room for
+WRONG = ValueError, LookupError, TypeError, AttributeError, ArithmeticError, RecursionError  # raised by a wrong text
 # Of a blob: identifier, number, until, poster, votes, and the epochs in which it was certified and declared invalid.
 Row = tuple[bytes, int, int, str, str, Optional[int], Optional[int]]
+
+
+class Unfit(ValueError):
+    """What should be a checkpoint is none, or another one than was announced."""
 
 
 class Mark(NamedTuple):
@@ -57,10 +66,24 @@ def line_of(values: Any) -> bytes:
     return json.dumps(values, separators=(",", ":")).encode() + b"\n"
 
 
+def unpacked(piece: bytes) -> bytes:
+    """Decompresses a piece, up to the size of one: a few bytes could fill the memory. Raises `Unfit`."""
+    packed = zlib.decompressobj()
+    try:
+        text = packed.decompress(piece, LONGEST + 1)
+    except zlib.error as fault:
+        raise Unfit(f"a piece of the checkpoint is damaged: {fault}") from None
+    if len(text) > LONGEST:
+        raise Unfit(f"a piece of the checkpoint has more than {LONGEST} bytes")
+    if not packed.eof or packed.unused_data:
+        raise Unfit("a piece of the checkpoint is damaged: it does not end where it should")
+    return text
+
+
 def read(pieces: Iterable[bytes], fields: dict[str, Any]) -> Iterator[Row]:
     """Yields the rows of blobs in compressed pieces, and puts the rest of the state into `fields` meanwhile."""
     for piece in pieces:
-        for line in zlib.decompress(piece).splitlines():
+        for line in unpacked(piece).splitlines():
             name, *values = json.loads(line)
             if len(values) == 6:
                 yield bytes.fromhex(name), values[0], values[1], values[2], values[3], values[4], values[5]
@@ -70,13 +93,43 @@ def read(pieces: Iterable[bytes], fields: dict[str, Any]) -> Iterator[Row]:
                 fields[name] = values[0]
 
 
-def state_of(pieces: Iterable[bytes]) -> str:
-    """Returns the digest of a checkpoint from its compressed pieces; raises `ValueError` if one cannot be
-    decompressed."""
-    digest = hashlib.sha256()
+@contextlib.contextmanager
+def checked() -> Iterator[None]:
+    """Raises `Unfit` if what is read in this block is no checkpoint. Other faults of SQLite are the disk's."""
     try:
-        for piece in pieces:
-            digest.update(zlib.decompress(piece))
-    except zlib.error as fault:
-        raise ValueError(f"a piece of the checkpoint is damaged: {fault}") from None
-    return digest.hexdigest()
+        yield
+    except Unfit:
+        raise
+    except (*WRONG, sqlite3.IntegrityError, sqlite3.ProgrammingError, sqlite3.InterfaceError) as fault:
+        raise Unfit(f"it is no checkpoint: {fault!r}") from fault
+
+
+class Pieces:
+    """Compressed pieces of a checkpoint as they come: in a temporary file of a folder, as all of them may be large, or
+    in memory while they are small."""
+
+    def __init__(self, folder: Optional[str] = None):
+        self.file = tempfile.SpooledTemporaryFile(LONGEST, dir=folder)
+        self.sizes, self.text = list[int](), hashlib.sha256()
+
+    def add(self, piece: bytes) -> None:
+        """Adds a piece; raises `Unfit` if it cannot be one, and `OSError` if the disk does not take it."""
+        self.text.update(unpacked(piece))
+        self.file.write(piece)
+        self.sizes.append(len(piece))
+
+    @property
+    def state(self) -> str:
+        """The digest of the checkpoint."""
+        return self.text.hexdigest()
+
+    def __len__(self) -> int:
+        return len(self.sizes)
+
+    def __iter__(self) -> Iterator[bytes]:
+        self.file.seek(0)
+        return map(self.file.read, self.sizes)
+
+    def clear(self) -> None:
+        self.file.close()
+        self.sizes.clear()

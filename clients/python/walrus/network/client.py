@@ -103,6 +103,7 @@ class Network(View):
         """Posts the committee of an epoch, by default the next one: `owners` are the nodes of its shards. If a node has
         more than f shards, it posts first that this is intended. The entries count only if the operator posts them."""
         epoch = self.ledger.epoch + bool(self.ledger.now) if epoch is None else epoch
+        await self.until(lambda it: not it.no_nodes(tuple(owners)), 20)  # a node posts its address soon after its start
         if max(collections.Counter(owners).values()) > faults:
             await self.recorders.post(entry_key(self.user, "concentrated", epoch))
         await self.recorders.post(entry_key(self.user, "begin", epoch, faults, ",".join(owners)))

@@ -7,12 +7,11 @@ import functools
 import json
 import re
 import ssl
-import zlib
 from typing import Any, Callable, Coroutine, Optional, TypeVar
 
 import aiohttp
 
-from .checkpoint import Mark, line_of
+from .checkpoint import Mark, Unfit, line_of, unpacked
 from .entries import Chain
 
 FIRST, LAST, HEAD = b"/walrus/000000000001", b"/walrus/999999999999", b"/walrus/head"
@@ -191,8 +190,8 @@ class Etcd:
         checkpoint of the same place. Raises `Failed` if that one differs."""
         key = key_of_piece(place, number)
         found, _ = await self.replace(key, b"", {key: piece})
-        with contextlib.suppress(zlib.error):  # another zlib may compress the same into other bytes
-            if found == piece or zlib.decompress(found) == zlib.decompress(piece):
+        with contextlib.suppress(Unfit):  # another zlib may compress the same into other bytes
+            if found == piece or unpacked(found) == unpacked(piece):
                 return
         raise Failed("another recorder writes a different checkpoint of this place; it may be of another version")
 

@@ -1,16 +1,17 @@
 """How posters and followers reach the ledger: they post entries to any recorder, and hear all entries in order."""
 import asyncio
 import base64
+import contextlib
 import errno
 import json
 import random
 import ssl
 import time
-from typing import Any, AsyncIterator, Callable, NamedTuple, Optional, Sequence
+from typing import Any, AsyncGenerator, AsyncIterator, Callable, NamedTuple, Optional, Sequence, Union
 
 import aiohttp
 
-from .checkpoint import state_of
+from .checkpoint import MOST_PIECES, Pieces, Unfit
 from .entries import Chain, Entry, fitting
 from .ledger import Ledger
 from .state import State
@@ -19,6 +20,10 @@ from .waiting import Waiting
 NAME = "recorder"  # in the certificate of every recorder, and of nobody else
 SILENCE, AWAY, LONGEST_LINE = 10.0, 5.0, 2**20  # seconds of silence until a recorder or the ledger is away; bytes
 CONNECT = 5.0  # seconds within which an address must accept a connection
+AGAIN, FULL = (
+    1.0,
+    5.0,
+)  # seconds until another recorder is asked for a checkpoint that was none; for one that the disk did not take
 MOST, MOST_BYTES = 1_000, 262_144  # entries that are posted at once, and their bytes
 PARTED = "it is another ledger, or one that was restored (network/OPERATING.md)"
 PASSING = (aiohttp.ClientError, ConnectionError, TimeoutError, ValueError, KeyError, TypeError)
@@ -56,7 +61,7 @@ class News(NamedTuple):
     entries: list[Entry]
     head: int
     ledger: str  # its identity
-    pieces: list[bytes] = []  # of a checkpoint at that place, which replaces all entries up to there
+    pieces: Union[list[bytes], Pieces] = []  # of a checkpoint at that place, which replaces all entries up to there
 
 
 class Recorders:
@@ -71,7 +76,8 @@ class Recorders:
             session = aiohttp.ClientSession(connector=connector, cookie_jar=jar, read_bufsize=LONGEST_LINE)
             self.known.append((f"https://{NAME}:{port}/v1/", session))
         self.at, self.said = random.randrange(len(self.known)), "it is too slow"
-        self.pieces = list[bytes]()  # of a checkpoint, as far as they have come
+        self.folder: Optional[str] = None  # where a checkpoint is kept while it comes; None: the system's folder for it
+        self.pieces = Pieces()  # of a checkpoint, as far as they have come
         self.waiting: list[tuple[str, "asyncio.Future[int]"]] = []
         self.sending: Optional["asyncio.Task[None]"] = None
         self.tail: Callable[[int, int], list[Entry]] = lambda place, count: []  # entries kept here, after a place
@@ -138,7 +144,7 @@ class Recorders:
         await asyncio.sleep(pause)
         return min(2 * pause, 2.0)
 
-    async def follow(self, chain: Optional[Chain], ledger: str = "") -> AsyncIterator[News]:
+    async def follow(self, chain: Optional[Chain], ledger: str = "") -> AsyncGenerator[News, None]:
         """Yields the news of a ledger after a chain, without end, from any recorder; raises `Parted` or `Refused`."""
         pause = 0.1
         while True:
@@ -172,14 +178,17 @@ class Recorders:
             head, begun = int(told["head"]), Chain(told.get("place", place), bytes.fromhex(told["digest"]))
             if ledger not in ("", told["ledger"]) or chain and begun.place == place and chain != begun:
                 raise Parted(f"the ledger's first {place} entries are others than were heard before: {PARTED}")
-            pieces = self.pieces = list[bytes]()
-            while len(pieces) < told.get("pieces", 0):
-                pieces.append(base64.b64decode(json.loads(await read())["piece"]))
-            if pieces and await asyncio.to_thread(state_of, pieces) != told["state"]:
-                raise ConnectionError("a recorder's checkpoint does not have the digest that it should have")
-            chain, ledger = begun, told["ledger"]
-            yield News(chain, [], head, ledger, pieces)
-            pieces.clear()  # they are applied, and this stream may last for months
+            count = self.must_lead_on(told, begun, place)
+            pieces = self.pieces = Pieces(self.folder)
+            try:
+                while len(pieces) < count:
+                    await self.keep(base64.b64decode(json.loads(await read())["piece"]), pieces)
+                if pieces and pieces.state != told["state"]:
+                    raise ConnectionError("a recorder's checkpoint does not have the digest that it should have")
+                chain, ledger = begun, told["ledger"]
+                yield News(chain, [], head, ledger, pieces)
+            finally:
+                pieces.clear()  # they are applied, and this stream may last for months
             while line := await read():
                 told = json.loads(line)
                 if "error" in told:
@@ -189,6 +198,27 @@ class Recorders:
                     raise Parted(f"the entries up to {chain.place} have another digest than the ledger: {PARTED}")
                 yield News(chain, entries, head, ledger)
 
+    def must_lead_on(self, told: dict[str, Any], begun: Chain, place: int) -> int:
+        """Returns the number of pieces of the checkpoint that a stream begins with. It must be of a place behind which
+        nothing was heard yet: an older one would take back what was heard, as would one of another ledger."""
+        count = int(told.get("pieces", 0))
+        if begun.place < place:
+            known = self.digest(begun.place)
+            if known not in ("", begun.digest.hex()):
+                raise Parted(f"the ledger's first {begun.place} entries are others than were heard before: {PARTED}")
+            raise ConnectionError(f"a recorder has a checkpoint of place {begun.place}, and {place} entries were heard")
+        if (count > 0) != (begun.place > place) or count > MOST_PIECES:
+            raise ConnectionError(f"a recorder has a checkpoint of place {begun.place} in {count} pieces")
+        return count
+
+    async def keep(self, piece: bytes, pieces: Pieces) -> None:
+        """Keeps a piece of a checkpoint until all of them are here."""
+        try:
+            await asyncio.to_thread(pieces.add, piece)
+        except OSError as fault:
+            await asyncio.sleep(FULL)
+            raise ConnectionError(f"the disk does not take a checkpoint: {fault}") from fault
+
 
 class View:
     """The ledger as far as it was heard, and a way to wait until a condition on it holds."""
@@ -196,6 +226,7 @@ class View:
     def __init__(self, recorders: Recorders, state: Optional[State] = None):
         self.recorders, self.state, self.waiting = recorders, state or State(), Waiting()
         self.ledger, recorders.tail, recorders.digest = self.state.ledger, self.state.entries, self.state.digest
+        recorders.folder = self.state.folder
         self.head, self.heard_at = -1, time.monotonic()  # where the ledger ended; when a recorder said something
         self.absence = 0.0, 0.0, ""  # the last one longer than `AWAY`: its seconds, its end, and why
         self.lost: Optional[Exception] = None  # the fault that has ended following for good
@@ -207,8 +238,13 @@ class View:
 
     async def follow(self) -> None:
         try:
-            async for news in self.recorders.follow(self.chain, self.state.identity):
-                await self.enter(news)
+            while True:
+                async with contextlib.aclosing(self.recorders.follow(self.chain, self.state.identity)) as coming:
+                    try:
+                        async for news in coming:
+                            await self.enter(news)
+                    except Unfit as fault:  # nothing of that checkpoint is there, and another recorder is asked
+                        await self.recorders.mind(fault, self.recorders.at, AGAIN)
         except Exception as fault:
             self.lost = fault
             self.waiting.tell()
@@ -240,7 +276,7 @@ class View:
         if (seconds := self.silence()) > AWAY:
             self.absence = seconds, time.monotonic(), self.recorders.said
         if news.pieces:  # they replace what was heard before
-            await state.take(news.pieces)
+            await state.take(news.pieces, news.ledger, news.chain)
         state.identity, state.entering = news.ledger, True
         await self.apply(news.entries)
         self.head, self.heard_at, state.entering = news.head, time.monotonic(), False

@@ -15,6 +15,7 @@ from .machine import AUTHORITY, ETCD_AUTHORITY, KEPT, Machine, Place, Unfounded,
 
 PLAN = "network.json"
 RECORDER_PORT, GATEWAY_PORT, CLIENTS, MEMBERS = 31_416, 31_415, 2_379, 2_380
+LEAST = 3_600.0  # seconds that an epoch lasts at least, unless it is founded otherwise
 
 
 def owners_of(places: Iterable[Place]) -> list[str]:
@@ -141,7 +142,11 @@ class Founding:
 
     def add_node(self, place: Place) -> None:
         self.plan["nodes"][place.name] = [place.host, place.port, place.shards]
-        self.machine(place.host, f"walrus-node@{place.name}").node(place)
+        self.machine(place.host, f"walrus-node@{place.name}").node(place, **self.least())
+
+    def least(self) -> dict[str, Any]:
+        """Returns the setting of the least length of an epoch; none if an earlier version founded the network."""
+        return {"least": self.plan["least"]} if "least" in self.plan else {}
 
     def add_gateway(self, place: Place) -> None:
         self.plan["gateways"][place.name] = [place.host, place.port]
@@ -213,6 +218,8 @@ def found(folder: pathlib.Path, faults: int, ledger: Sequence[str], nodes: Seque
     places = [Place.read(text) for text in nodes]
     gateways = [Place.read(text, port=GATEWAY_PORT) for text in words.gateways]
     must_fit(faults, places, words.concentrated)
+    if not 0 <= words.least < float("inf"):
+        raise Unfounded(f"--least is a number of seconds from 0 on, and not {words.least}")
     if not recorders or len({it.host for it in recorders}) < len(recorders):
         raise Unfounded("name the machines of the ledger, each of them once; it is best to have an odd number of them")
     users = [OPERATOR, *words.users]
@@ -222,11 +229,11 @@ def found(folder: pathlib.Path, faults: int, ledger: Sequence[str], nodes: Seque
         for it in recorders
     }
     plan: dict[str, Any] = {"program": words.program, "recorders": [it.address for it in recorders], "etcd": urls}
-    plan |= {"faults": faults, "prefix": words.prefix, "nodes": {}, "gateways": {}, "users": []}
+    plan |= {"faults": faults, "prefix": words.prefix, "nodes": {}, "gateways": {}, "users": [], "least": words.least}
     made = Founding.begin(folder, plan, words.days)
     for name, place in zip(urls, recorders):
         machine = made.machine(place.host, "walrus-etcd", "walrus-recorder")
         machine.etcd(name, place, urls)
-        machine.recorder(place, urls[name][0])
+        machine.recorder(place, urls[name][0], **made.least())
     made.add(places, gateways, users)
     return made

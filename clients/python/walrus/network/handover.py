@@ -168,7 +168,16 @@ async def move(node: "Node") -> None:
             if left and left != said:
                 print(f"{node.name}: epoch {epoch} {in_words(node.waits)}; {MISSING}", file=sys.stderr, flush=True)
             said = left
-            if own and not left and not own <= ledger.ready:
+            if (
+                own
+                and not left
+                and not own <= ledger.ready
+                and (early := node.settings.least - node.state.begun.seconds) > 0
+            ):
+                text = f"epoch {epoch - 1} lasts at least {node.settings.least:g} s by this clock"
+                print(f"{node.name}: epoch {epoch}: {text}, so ready in {early:.0f} s", file=sys.stderr, flush=True)
+                await node.until(lambda it: not it.moving or it.epoch + 1 != epoch, early)
+            elif own and not left and not own <= ledger.ready:
                 await node.recorders.post(entry_key(node.name, "ready", epoch))
             if own and ledger.moving and len(ledger.ready) >= ledger.quorum:
                 await node.recorders.post(entry_key(node.name, "finish", epoch))

@@ -6,7 +6,6 @@ entries posted under a name that the operator has expelled. An entry *counts* if
 in `REFUSED`."""
 import collections
 import copy
-import dataclasses
 import functools
 from typing import Collection, Iterable, Optional
 
@@ -16,6 +15,7 @@ from .entries import ACK, ADDRESS, ATTEST, LAST_EPOCH, LAST_UNTIL, OPERATOR, PAS
 __all__ = ["ACK", "ADDRESS", "ATTEST", "LAST_UNTIL", "OPERATOR", "PAST", "REGISTER", "Entry", "Ledger", "entry_key"]
 ORDERS = "begin", "share", "expel", "concentrated", "calendar"  # kinds that only the operator may post
 ROOM = 1_048_576  # entries that a poster's registrations in an epoch may cause, counting each node's acknowledgement
+AHEAD = 1_000  # epochs after the writing one for which a recorder lets anybody but the operator keep a blob
 ADDRESSES = 64  # of a name that count in an epoch: a node posts one at each start, if it differs from the last one
 FORMLESS = "it does not have the form of an entry"
 REFUSED = {  # entries that change nothing: their outcome, or its first word, and the reason for their poster
@@ -149,18 +149,29 @@ class Ledger:
         return word
 
     def refused(self, entry: Entry) -> str:
-        """Applies an entry and returns why it changes nothing, or an empty text if it counts. Recorders do not append
-        entries that change nothing, so these take nothing of their poster's share; nor acknowledgements that no correct
-        node posts, although they would count."""
-        if entry.words[1:2] == [ACK] and self.certified_before(entry.values[1], entry.values[0]):
+        """Applies an entry and returns why it changes nothing, or an empty text if it counts. Recorders append none
+        that change nothing, so these take nothing of their poster's share; nor what followers take from an earlier
+        version: votes that no correct node posts, committees with names of no nodes, and what keeps a blob too long."""
+        poster, kind = entry.words[:2] or ("", "")
+        if kind == ACK and self.certified_before(entry.values[1], entry.values[0]):
             return "the blob was certified in an earlier epoch"
+        if (poster, kind) == (OPERATOR, "begin") and (names := self.no_nodes(entry.values[2])):
+            return f"{' and '.join(names)} can hold no shard: start the node, or correct the name"
+        last = self.writing_epoch + AHEAD
+        if kind == REGISTER and poster != OPERATOR and entry.values[1] > last:
+            return f"a blob is kept for at most {AHEAD} epochs, so now until epoch {last}"
         try:
             why = refusal(self.enter(entry))
         except Void as void:
             return str(void)
-        if why and entry.words[1] == REGISTER:
-            self.posted[entry.words[0]] -= 1
+        if why and kind == REGISTER:
+            self.posted[poster] -= 1
         return why
+
+    def no_nodes(self, owners: tuple[str, ...]) -> list[str]:
+        """Returns which of these names have neither an address nor a shard, or are expelled, or the operator's."""
+        known = {*self.addresses, *self.now} - self.expelled - {OPERATOR}
+        return [name for name in dict.fromkeys(owners) if name not in known]
 
     def stands(self, entry: Entry) -> bool:
         """Whether an entry that counted is still in force: what it says has not ended, and no later one differs."""
@@ -224,6 +235,7 @@ class Ledger:
                 self.calendar = epoch, since, length
             case "expel", name:
                 self.expelled |= {name}
+                self.blobs.release(name, self.expelled, self.writing_epoch + 1)
                 self.posted.pop(name, None)
                 self.shares.pop(name, None)
             case "concentrated", epoch:
@@ -236,11 +248,11 @@ class Ledger:
             return "refused past"
         if self.moving and blob:
             return "refused moving"
-        if blob and until <= blob.until:
-            return f"until {blob.until}"
         # From the next epoch change on it counts towards the share of the poster that keeps it for longest.
-        self.blobs[identifier] = dataclasses.replace(blob, until=until, poster=poster) if blob else Blob(until, poster)
-        return f"until {until}"
+        kept = blob.kept(poster, until, self.epoch) if blob else Blob(until, poster)
+        if kept != blob:
+            self.blobs[identifier] = kept
+        return f"until {kept.until}"
 
     def _vote(self, poster: str, kind: str, epoch: int, identifier: bytes) -> str:
         blob, own = self.blobs.get(identifier), owned(self.writing, poster)

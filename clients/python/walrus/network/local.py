@@ -184,6 +184,8 @@ class Local:
         for name in names:
             await self.add_node(name)
         async with self.network(OPERATOR) as operator:
+            first = [] if operator.ledger.now else [*names]
+            await all_of(map(self.start_node, first))  # a committee has nodes that told the ledger their addresses
             if not operator.ledger.now:
                 await operator.begin(faults, list(owners or names))
                 if not await operator.until(lambda ledger: ledger.now):
@@ -192,7 +194,7 @@ class Local:
         known = [
             name
             for name in dict.fromkeys([*names, *self.sides[0], *self.sides[1]])
-            if (self.folder / f"{name}.toml").exists()
+            if name not in first and (self.folder / f"{name}.toml").exists()
         ]
         await all_of(map(self.start_node, known))
 

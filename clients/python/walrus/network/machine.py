@@ -151,12 +151,13 @@ class Machine:
         }
         (self.into / ("etcd.env" if self.state else f"{name}.env")).write_text(ETCD.format(**words))
 
-    def recorder(self, place: Place, etcd: str, file: str = RECORDER) -> None:
+    def recorder(self, place: Place, etcd: str, file: str = RECORDER, **options: Any) -> None:
         told: dict[str, Any] = {"name": place.name, "etcd": etcd, "host": place.listens, "port": place.port}
         told |= {"etcd_authority": self.at(f"{ETCD_AUTHORITY}.crt"), "authority": self.at(f"{AUTHORITY}.crt")}
         told |= {"etcd_certificate": self.at("etcd.crt"), "etcd_key": self.at("etcd.key")}
         told |= self.sign(file, place.name, RECORDER, place.host)
-        write(RecorderSettings, self.into / f"{file}.toml", {**told, "state": self.kept(RECORDER, f"{file}.ledger")})
+        told |= {"state": self.kept(RECORDER, f"{file}.ledger"), **options}
+        write(RecorderSettings, self.into / f"{file}.toml", told)
 
     def node(self, place: Place, **options: Any) -> None:
         told: dict[str, Any] = {"name": place.name, "program": self.plan["program"]}

@@ -11,7 +11,7 @@ from .client import Access
 from .configuration import faults_of_values
 from .entries import OPERATOR
 from .exposure import Options
-from .founding import GATEWAY_PORT, Founding, found
+from .founding import GATEWAY_PORT, LEAST, Founding, found
 from .machine import Place
 from .settings import GatewaySettings, RecorderSettings, Settings
 from .transfers import Failure
@@ -50,6 +50,7 @@ def add_words(add: Add) -> None:
     sub.add_argument("--prefix", default="", help="goes before /etc/walrus and /var/lib/walrus; no units are made then")
     sub.add_argument("--program", default="/usr/bin/walrus", help="where the program is on the machines")
     sub.add_argument("--days", type=float, default=AUTHORITY_DAYS, help="for which the authorities are valid")
+    sub.add_argument("--least", type=float, default=LEAST, metavar="SECONDS", help="that an epoch lasts at least")
     for sub in (sub, add("add", "make the files of further nodes, gateways and users", "folder", "nodes*")):
         sub.add_argument("--gateway", dest="gateways", action="append", default=[], metavar="NAME=HOST[:PORT]")
         sub.add_argument("--user", dest="users", action="append", default=[], metavar="NAME", help="who may post")

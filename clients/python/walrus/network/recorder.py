@@ -12,8 +12,8 @@ import sys
 import time
 from typing import Iterator, Optional, Union
 
-from .checkpoint import state_of
-from .entries import Chain, Entry, fitting
+from .checkpoint import Mark, Pieces, Unfit
+from .entries import OPERATOR, Chain, Entry, fitting
 from .etcd import Batch, Etcd, Failed, Gone
 from .follower import Refused
 from .ledger import FORMLESS, refusal
@@ -34,8 +34,8 @@ class Broken(Exception):
 class Recorder:
     """The ledger as etcd has it, the places of entries that count while etcd has them, and entries that wait."""
 
-    def __init__(self, etcd: Etcd, state: Optional[State] = None) -> None:
-        self.etcd, self.state = etcd, state or State()
+    def __init__(self, etcd: Etcd, state: Optional[State] = None, least: float = 0.0) -> None:
+        self.etcd, self.state, self.least = etcd, state or State(), least  # `least`: seconds that an epoch lasts
         self.ledger, self.state.apply = self.state.ledger, self.apply
         self.waiting = dict[Taken, str]()
         self.recent, self.size = collections.deque[Batch](), 0  # batches for followers, and their bytes
@@ -166,14 +166,30 @@ class Recorder:
         mark, place = await self.etcd.mark(), self.chain.place
         if not mark or mark.place <= place:
             raise Broken(f"etcd has neither the entries after place {place} nor a later checkpoint")
-        with contextlib.suppress(Gone):  # a later one has replaced it meanwhile
-            pieces = [await self.etcd.piece(mark.place, number) for number in range(mark.pieces)]
-            if await asyncio.to_thread(state_of, pieces) != mark.state:
-                raise Broken(f"the checkpoint of place {mark.place} in etcd is not what was written")
-            await self.state.take(pieces)
+        pieces = Pieces(self.state.folder)
+        try:
+            await self.gather(mark, pieces)
+            await self.state.take(pieces, self.state.identity, mark.chain)
             self.recent.clear()
             self.size = 0
             await self.state.forget_places(mark.place)
+        except Gone:  # a later one has replaced it meanwhile
+            pass
+        except Unfit as fault:
+            raise Broken(f"the checkpoint of place {mark.place} in etcd is not what was written: {fault}") from fault
+        finally:
+            pieces.clear()
+
+    async def gather(self, mark: Mark, pieces: Pieces) -> None:
+        """Reads all pieces of a checkpoint from etcd; raises `Unfit` if they are not what was written."""
+        for number in range(mark.pieces):
+            piece = await self.etcd.piece(mark.place, number)
+            try:
+                await asyncio.to_thread(pieces.add, piece)
+            except OSError as fault:
+                raise Failed(f"the disk does not take the checkpoint of place {mark.place}: {fault}") from fault
+        if pieces.state != mark.state:
+            raise Unfit("its digest is another one")
 
     def enter(self, batch: Batch, own: bool = False) -> None:
         """Applies a batch that etcd has (`own` if this recorder has just appended it), or the part that is new here."""
@@ -214,13 +230,23 @@ class Recorder:
                 break  # an entry between says otherwise: this one is appended again with the next batch
             if place := places.get(text) or stands and self.state.place_of(text):
                 answers[taken] = place
-            elif reason := fork.refused(entry):
+            elif reason := self.early(entry) or fork.refused(entry):
                 answers[taken] = Refused(reason)
             else:
                 answers[taken] = places[text] = entry.place
-                if fork.epoch != self.ledger.epoch:
-                    break  # the copy is good up to an epoch change only
+                if (fork.epoch, fork.expelled) != (self.ledger.epoch, self.ledger.expelled):
+                    break  # the copy is good up to an epoch change only, and until a name is expelled
         return answers, Batch(self.chain, [*places]) if places else None
+
+    def early(self, entry: Entry) -> str:
+        """Returns why the next epoch cannot be begun yet, or an empty text for other entries, and once it can be."""
+        ledger, age = self.ledger, self.state.begun.seconds
+        if entry.words[:2] != [OPERATOR, "begin"] or not ledger.now or ledger.moving or age >= self.least:
+            return ""
+        said = (
+            f"epoch {ledger.epoch} began {age:.0f} s ago by this recorder's clock, and lasts at least {self.least:g} s"
+        )
+        return f"{said} (least): begin the next one in {self.least - age:.0f} s"
 
     async def behind(self, place: int, name: str = "") -> list[Batch]:
         """Returns the batches after a place, or only the first ones; raises `Gone` if etcd has dropped them."""

@@ -29,6 +29,7 @@ MOST_BODY, MOST_ENTRIES, MOST_PLACE = 1_048_576, 4_096, 10**12 - 1  # bytes and 
 REQUEST, ANSWER = 30.0, 8.0  # seconds
 CONNECTIONS, OF_NAME, OF_OTHERS = 1_024, 64, 4  # connections, those of one name, and those of a name that may not post
 EACH = 32  # requests of one name under way at most
+SMALL = 65_536  # bytes of a body that is read without a turn of its name
 MOST_WAITING = 65_536  # entries that wait at most
 
 
@@ -40,6 +41,7 @@ class Service(Server):
         self.recorder, self.settings = recorder, settings
         self.busy, self.asked = collections.Counter[str](), collections.Counter[str]()  # requests, and entries, by name
         self.connected = collections.Counter[str]()  # connections, by name
+        self.reading = collections.defaultdict[str, asyncio.Lock](asyncio.Lock)  # held from before a body is read on
         self.turns = collections.defaultdict[str, asyncio.Lock](asyncio.Lock)  # held while a body is checked, by name
         self.places: dict[str, int] = {}  # the place up to which each name was sent entries
 
@@ -86,16 +88,21 @@ class Service(Server):
             self.busy[name] -= 1
 
     async def post(self, request: web.Request) -> web.Response:
-        """Reads entries, and answers once the ledger has them. Bodies of one name are checked one after another, and
-        after each the name waits for as long as the check took, so others have at least half of the time."""
-        name = request["name"]
-        try:
-            async with asyncio.timeout(REQUEST):
-                body = await request.read()
-        except (TimeoutError, OSError, ValueError, web.PayloadAccessError):
-            body = b""
-        async with held_twice(self.turns[name]):
-            taken = self.take(name, body)
+        """Reads entries, and answers once the ledger has them. Of the bodies of one name only one that is longer than
+        `SMALL` is read at once, so that few are in memory; one that comes slowly delays no small one. They are checked
+        one after another, and after each the name waits for as long as the check took, so others have at least half of
+        the time."""
+        name, length = request["name"], request.content_length
+        is_small = length is not None and length <= SMALL
+        turn: Any = contextlib.nullcontext() if is_small else self.reading[name]
+        async with turn:
+            try:
+                async with asyncio.timeout(REQUEST):
+                    body = await request.read()
+            except (TimeoutError, OSError, ValueError, web.PayloadAccessError):
+                body = b""
+            async with held_twice(self.turns[name]):
+                taken = self.take(name, body)
         if isinstance(taken, web.Response):
             return taken
         try:
@@ -218,7 +225,7 @@ async def serve(settings: RecorderSettings) -> int:
     except (OSError, ValueError) as fault:
         print(f"{settings.name} cannot start: {fault}", file=sys.stderr, flush=True)
         return 1
-    recorder = Recorder(etcd_of(settings), state)
+    recorder = Recorder(etcd_of(settings), state, settings.least)
     service, keeper = Service(recorder, settings), Keeper(recorder, settings.patience)
     watching = [certificates.watch(settings.name, it) for it in loaded]
     tasks = [asyncio.create_task(it) for it in (recorder.run(), keeper.run(), ending().wait(), *watching)]

@@ -30,6 +30,7 @@ class Settings(Role):
     scrub_rate: int = 20_000_000  # bytes a second that a scrub reads at most
     grace: float = 604_800.0  # seconds for which files that nothing names are kept aside before they are deleted
     reads: str = ANYONE  # who may read blobs here: anyone, or only members, who show a certificate of the network
+    least: float = 0.0  # seconds that an epoch lasts before this node says that it is ready for the next one
     metrics: str = ""  # where Prometheus reads metrics: PORT on loopback alone, or HOST:PORT
     recorded: bool = False  # keep all requests and replies, for network/trace
 
@@ -57,6 +58,7 @@ class RecorderSettings(Role):
     host: str = "127.0.0.1"
     port: int = 0
     patience: float = 604_800.0  # seconds for which entries of past epochs are kept for nodes that are away
+    least: float = 0.0  # seconds that an epoch lasts before the next one may be begun
 
 
 @dataclasses.dataclass(kw_only=True)

@@ -8,9 +8,10 @@ import json
 import pathlib
 import sqlite3
 import time
-from typing import Any, Callable, Collection, Iterable, Iterator, Optional
+from typing import Any, Callable, Iterable, Iterator, Optional
 
 from . import checkpoint
+from .age import Age
 from .blobs import ALL, Blobs
 from .database import Database
 from .entries import Chain, Entry
@@ -20,7 +21,7 @@ EACH, LATER = 0.5, 1.0  # seconds between two commits; the same at least after t
 HELD = 5_000  # entries that wait for the disk: applying them again takes 0.15 s of a processor, or 1 s if it is busy
 REST = 10  # the pause after a failed commit, as a multiple of the time that it took to apply its entries again
 PAGES = 32_768  # KiB of the database that are kept in memory
-VERSION = 3  # of the tables
+VERSION = 4  # of the tables
 DROPPED = 1_000  # rows of blobs that are over, or entries of the tail, that are deleted with a commit at most
 TORN = sqlite3.SQLITE_CORRUPT, sqlite3.SQLITE_NOTADB, sqlite3.SQLITE_ERROR  # damaged, no database, or another's
 TABLES = """
@@ -66,6 +67,7 @@ class State(Database):
         self.ledger, self.saved = Ledger(self.blobs), 0  # `saved`: the epoch of the last commit
         self.apply: Callable[[Entry], Optional[str]] = self.ledger.apply  # used to apply entries again after a rollback
         self.born = json.dumps(self.fields())
+        self.begun = Age(self.base)
         self.base.execute("BEGIN IMMEDIATE")
         self.load()
 
@@ -115,6 +117,7 @@ class State(Database):
         loses is heard again."""
         self.chain = chain
         self.fresh += entries
+        self.begun.note(self.ledger)
         if not soon or time.monotonic() >= self.due or self.ledger.epoch != self.saved:
             self.settle()
 
@@ -162,6 +165,7 @@ class State(Database):
         else:
             self.blobs.drop(self.blobs.over(DROPPED))
         self.base.execute(TELL, (json.dumps(self.fields()),))
+        self.begun.save()
         self.base.execute("COMMIT")
         self.base.execute("BEGIN IMMEDIATE")
         self.saved = self.ledger.epoch
@@ -170,20 +174,24 @@ class State(Database):
         """Stores the digest of all entries up to a place."""
         self.base.execute("INSERT OR REPLACE INTO digests VALUES (?, ?)", (chain.place, chain.digest))
 
-    async def take(self, pieces: Collection[bytes]) -> None:
-        """Replaces the state by a checkpoint. Retries until the disk takes it, and before that all that was applied: so
-        what others see meanwhile does not go back."""
+    @property
+    def folder(self) -> Optional[str]:
+        return str(pathlib.Path(self.name).absolute().parent) if self.name else None
+
+    async def take(self, pieces: Iterable[bytes], identity: str = "", chain: Optional[Chain] = None) -> None:
+        """Replaces the state by a checkpoint; raises `Unfit` if it is not of this ledger and chain, if they are given.
+        Retries until the disk takes it, and before that all that was applied: so what others see does not go back."""
         while True:
             if not self.is_full() and self.settle():
                 try:
-                    return await self.take_now(pieces)
+                    return await self.take_now(pieces, identity, chain)
                 except sqlite3.OperationalError as fault:  # of a full disk, which is told from damage as in `open`
                     if self.entering or getattr(fault, "sqlite_errorcode", sqlite3.SQLITE_FULL) & 0xFF in TORN:
                         raise
                     self.tell(fault)
             await asyncio.sleep(LATER)
 
-    async def take_now(self, pieces: Iterable[bytes]) -> None:
+    async def take_now(self, pieces: Iterable[bytes], identity: str, chain: Optional[Chain]) -> None:
         """Does so once, over a committed state, which stays if it fails. A thread writes the checkpoint to the file.
         Until all is there, others read what was committed before, over a second connection. Without a file it is
         written on the event loop. After a cancellation the state is still `entering` and can only be closed."""
@@ -195,10 +203,10 @@ class State(Database):
                 reader = sqlite3.connect(self.name, isolation_level=None)
                 reader.executescript("PRAGMA query_only = ON; BEGIN; SELECT * FROM told")
                 self.blobs.base = reader
-                await self.aside(lambda: self.replace(pieces))
+                await self.aside(lambda: self.replace(pieces, identity, chain))
                 reader.execute("COMMIT")
             else:
-                self.replace(pieces)
+                self.replace(pieces, identity, chain)
         except Exception as it:  # the disk is full, or these pieces are no checkpoint
             fault = it
             if base.in_transaction:
@@ -213,21 +221,27 @@ class State(Database):
         base.execute("PRAGMA cache_spill = OFF")
         base.execute("BEGIN IMMEDIATE")
         self.entering = False
+        if not fault:
+            self.begun.note(self.ledger)
         if fault:
             raise fault
 
-    def replace(self, pieces: Iterable[bytes]) -> None:
-        """Replaces everything in the database by a checkpoint."""
+    def replace(self, pieces: Iterable[bytes], identity: str, chain: Optional[Chain]) -> None:
+        """Replaces everything in the database by a checkpoint, piece by piece."""
         told, base = dict[str, Any](), self.base
         base.execute("PRAGMA cache_spill = ON")
         base.execute("BEGIN IMMEDIATE")
-        Blobs(base).take(checkpoint.read(pieces, told))
+        with checkpoint.checked():
+            Blobs(base).take(checkpoint.read(pieces, told))
+            with contextlib.closing(State()) as other:
+                other.put(told)  # raises if the next start could not read it
+            found = Chain(told["place"], bytes.fromhex(told["digest"]))
+        if chain and (told["ledger"], found) != (identity, chain) or self.chain and told["epoch"] < self.saved:
+            raise checkpoint.Unfit(f"it is of place {found.place} and epoch {told['epoch']}, or of another ledger")
         base.execute("DELETE FROM entries")
         base.execute("DELETE FROM digests")
         base.execute(TELL, (json.dumps(told),))
-        with contextlib.closing(State()) as other:
-            other.put(told)  # raises if the next start could not read it
-        self.note(Chain(told["place"], bytes.fromhex(told["digest"])))
+        self.note(found)
         base.execute("COMMIT")
 
     def written(self) -> Iterator[bytes]:
@@ -246,6 +260,7 @@ class State(Database):
 
     def digest(self, place: int) -> str:
         """Returns the digest of all entries up to a place of the tail, in hexadecimal; an empty text if unknown."""
+        self.settle()
         words = "SELECT place, digest FROM digests WHERE place <= ? ORDER BY place DESC LIMIT 1"
         if not (row := self.base.execute(words, (place,)).fetchone()):
             return ""
