@@ -42,7 +42,7 @@ class Connection:
     task: "asyncio.Task[None]"
     address: tuple[Any, ...]
     whom: str = dataclasses.field(init=False)  # the address or network under which its turns are counted
-    since: float = dataclasses.field(default_factory=time.monotonic)
+    since: float = dataclasses.field(default_factory=lambda: time.monotonic())  # read at the call, not at the import
     had_reply: bool = False
     certificate: Any = None  # the client's, as `SSLSocket.getpeercert` has it; None without one
     kept: int = 0
