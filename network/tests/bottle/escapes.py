@@ -1,4 +1,5 @@
 """The ways out of the bottle, closed while a run lasts: clocks, chance, sockets, threads and processes."""
+import asyncio
 import concurrent.futures
 import contextlib
 import gc
@@ -23,8 +24,8 @@ LOAD = ssl.SSLContext.load_cert_chain
 
 
 class Syncer:
-    """Stands for the thread that syncs a database's log: each sync takes a drawn time, and ends on the loop. It notes
-    how much of the log is on the disk."""
+    """Stands for the thread that syncs a database's log and brings it into the database: each piece of work takes a
+    drawn time. It notes how much of the log is on the disk."""
 
     def __init__(self, target: Any, **_: Any):
         self.store = target.__self__
@@ -32,14 +33,15 @@ class Syncer:
     def start(self) -> None:
         self.store.syncs = self
 
-    def put(self, loop: Any) -> None:
-        if loop:
-            size = os.path.getsize(f"{self.store.path}-wal")
-            loop.call_later(loop.drawn.expovariate(1 / SYNC), self.synced, size)
+    def put(self, work: Any) -> None:
+        if work:
+            loop = asyncio.get_running_loop()
+            assert isinstance(loop, Loop)
+            loop.call_later(loop.drawn.expovariate(1 / SYNC), self.do, work, os.path.getsize(f"{self.store.path}-wal"))
 
-    def synced(self, size: int) -> None:
+    def do(self, work: Any, size: int) -> None:
         SYNCED[f"{self.store.path}-wal"] = size
-        self.store.synced(None)
+        work()
 
     def join(self) -> None:
         pass
