@@ -182,7 +182,8 @@ class Taking(RecorderCase):
         with tempfile.TemporaryDirectory() as folder, mock.patch.object(state.checkpoint, "read", slow):
             made: Any = Network.__new__(Network)
             View.__init__(made, Told(), State(f"{folder}/new"))  # type: ignore[arg-type]
-            made.late, made.peers, made.walrus = set(), mock.AsyncMock(), mock.Mock()
+            made.late, made.walrus = set(), mock.Mock()
+            made.peers = made.holders = mock.AsyncMock()
             with mock.patch.object(View, "until", lambda it, holds, seconds: until(it, holds, seconds / 100)):
                 async with made:
                     self.assertEqual((made.chain, len(made.ledger.blobs)), (ahead.chain, 1))

@@ -211,7 +211,8 @@ class Streams(LedgerCase):
         """Returns whether a network begins to follow recorders that send this, with shorter deadlines."""
         self.streams, until, made = [*streams], View.until, Network.__new__(Network)
         View.__init__(made, self.user("publisher"))
-        made.late, made.peers, made.walrus = set(), mock.AsyncMock(), mock.Mock()
+        made.late, made.walrus = set(), mock.Mock()
+        made.peers = made.holders = mock.AsyncMock()
         short = {20: 2.0, 60: 1.5}
         with mock.patch.object(View, "until", lambda it, holds, seconds: until(it, holds, short[seconds])):
             try:
