@@ -12,7 +12,6 @@ MODULES += sorted((CLIENT / "walrus").glob("*.py"))
 NAMES = ("network", "spread", "bad_encoding", "one_shard", "bundle", "journal", "challenge", "gateway")
 EXAMPLES = [TOP / "examples" / name for name in NAMES]
 DOCS = [TOP / "docs" / f"{name}.py" for name in ("clauses", "definitions", "tables")]
-MOST_LINES = 300
 
 
 def says(name, *words):
@@ -35,11 +34,6 @@ class Style(unittest.TestCase):
 
     def test_faults(self):
         self.assertEqual(says("flake8", "--max-line-length", "120", CLIENT, *EXAMPLES, *DOCS), "")
-
-    def test_modules_are_small(self):
-        """The client, its frames, its command and the front have fewer lines than this."""
-        lines = {file.name: len(file.read_text().splitlines()) for file in MODULES}
-        self.assertEqual({name: count for name, count in lines.items() if count >= MOST_LINES}, {})
 
 
 if __name__ == "__main__":

@@ -25,6 +25,7 @@ SETTINGS = {
     "scrub_rate": 10**9,
     "reserve": 0.0,
     "grace": 3_600.0,
+    "least": 0.0,
 }  # of a node, as far as it needs them
 SMALL, LARGE = 1_000, 3_000  # bytes: the longest content in SQLite here; a blob whose slivers are files
 
@@ -149,7 +150,8 @@ class NodeCase(ShardCase):
         node = types.SimpleNamespace(name="a", store=self.store, ledger=self.ledger, sides=sides, posted=[], vouched=[])
         node.caught_up, node.judges, node.repairs = True, self.judges, judge.Room(10_000_000)
         node.settings, node.waits = types.SimpleNamespace(**SETTINGS), dict[str, Any]()
-        node.unattested, node.state = set[bytes](), types.SimpleNamespace(base=self.ledger.blobs.base)
+        begun = types.SimpleNamespace(seconds=0.0)
+        node.unattested, node.state = set[bytes](), types.SimpleNamespace(base=self.ledger.blobs.base, begun=begun)
         node.peers = types.SimpleNamespace(seats=lambda owners, faults: self.seats)
         node.port = Port(mock.AsyncMock(), client.Shape(1), Bounds())
 

@@ -137,13 +137,6 @@ class Pages(unittest.TestCase):
             ran = subprocess.run(words, capture_output=True, text=True, cwd=harness.HERE.parent)
             self.assertEqual((ran.returncode, ran.stdout + ran.stderr), (0, ""), words[0])
 
-    def test_modules_are_short(self) -> None:
-        sizes = {
-            it.name: len(it.read_text().splitlines())
-            for it in (harness.HERE.parents[1] / "clients" / "python" / "walrus" / "network").glob("*.py")
-        }
-        self.assertEqual([name for name, size in sizes.items() if size > 300], [], sizes)
-
 
 if __name__ == "__main__":
     unittest.main()

@@ -6,6 +6,7 @@ import tracemalloc
 import unittest
 import unittest.mock
 
+import harness  # noqa: F401  # where the package is
 from walrus.network import places
 from walrus.network.transfers import Failure
 

@@ -13,6 +13,7 @@ from shard_case import LARGE, SMALL, ShardCase
 from walrus import client, shards
 from walrus.frames import METADATA, PRIMARY, SECONDARY, answer, code_of
 from walrus.network import shard
+from walrus.network.files import ASIDE
 from walrus.network.store import Store
 
 
@@ -127,7 +128,7 @@ class Disk(ShardCase):
         self.assertEqual(await self.shard.check(primary[1:33]), (size, True))
         self.assertEqual(await self.read(primary[1:33]), [metadata, primary])
 
-    async def test_what_nothing_names_is_swept(self) -> None:
+    async def test_what_nothing_names_is_put_aside(self) -> None:
         await self.put(bytes(LARGE))
         assert self.store
         named = self.files()
@@ -137,7 +138,8 @@ class Disk(ShardCase):
         [fresh] = self.store.files.write(bytes(32), bytes(100))  # it has no row yet, and is to get one
         swept = self.store.files.sweep(folder.name, {it.name for it in named})
         self.assertEqual(swept, (2, set()))
-        self.assertEqual({*self.files()}, {*named, self.store.files.path(fresh)})
+        aside = self.store.files.folder / ASIDE / "unnamed"
+        self.assertEqual({*self.files()}, {*named, self.store.files.path(fresh), aside})
 
     async def test_names_that_are_looked_up_for_long_hold_up_nothing_of_the_disk(self) -> None:
         assert self.store

@@ -1,5 +1,5 @@
-"""Connections in memory between machines, with drawn latency, partitions and crashes. TLS is left out: each end is shown
-the certificate that a real handshake would show it, and names are compared as there."""
+"""Connections in memory between machines, with drawn latency, partitions and crashes. TLS is left out: each end is
+shown the certificate that a real handshake would show it, and names are compared as there."""
 import asyncio
 import collections
 import contextvars
@@ -237,7 +237,9 @@ class Loop(Clocks):
         return self.links[link] * (1 + self.drawn.expovariate(10))
 
     def is_cut(self, one: Machine, other: Machine) -> bool:
-        return one.host != other.host and any(frozenset(it) in self.cuts for it in ((one.host, other.host), (one.host,), (other.host,)))
+        return one.host != other.host and any(
+            frozenset(it) in self.cuts for it in ((one.host, other.host), (one.host,), (other.host,))
+        )
 
     def cut(self, *hosts: str) -> None:
         """Cut two hosts from each other, or one from all."""
