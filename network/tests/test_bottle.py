@@ -12,7 +12,7 @@ sys.path.insert(0, str(HERE.parents[1] / "clients" / "python"))
 from walrus.engines import Library, NotFound, find  # noqa: E402
 
 RUN = HERE / "bottle" / "run"
-SEEDS, FRESH, SECONDS = range(1, 9), 4, 300
+SEEDS, FRESH, SECONDS = range(1, 6), 2, 120
 
 
 def library() -> str:
