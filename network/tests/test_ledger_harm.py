@@ -2,16 +2,19 @@
 import asyncio
 import contextlib
 import io
+import json
 import pathlib
 import socket
 import ssl
 import tempfile
 import threading
 import time
+import tracemalloc
 import unittest
 from typing import Any, Optional
 from unittest import mock
 
+from aiohttp import streams, test_utils, web
 from ledger_case import FOUNDED, Chain, LedgerCase, Memory, found, registration
 from walrus import client
 from walrus.network import certificates, recorder, recording
@@ -130,6 +133,33 @@ class Bodies(unittest.IsolatedAsyncioTestCase):
         async with asyncio.timeout(60):
             await asyncio.gather(*long)
         self.assertEqual(reads.count("mallory"), 5)
+
+    async def test_no_body_is_in_memory_while_its_entries_wait(self) -> None:
+        """They wait for as long as etcd hangs, and a body may be long with one entry in it."""
+        made = Recorder(Memory())
+        self.addCleanup(made.state.close)
+        service = recording.Service(made, mock.Mock())
+
+        def post(number: int) -> "asyncio.Task[web.Response]":
+            body = b" " * 1_000_000 + json.dumps([registration("x", number).partition("/")[2]]).encode()
+            payload = streams.StreamReader(mock.Mock(_reading_paused=False), 2**16, loop=asyncio.get_running_loop())
+            payload.feed_data(body)
+            payload.feed_eof()
+            fields = {"Content-Length": str(len(body))}
+            request = test_utils.make_mocked_request("POST", "/v1/entries", fields, payload=payload)
+            request["name"] = "mallory"
+            return asyncio.create_task(service.post(request))
+
+        tracemalloc.start()
+        self.addCleanup(tracemalloc.stop)
+        posts = [post(number) for number in range(20)]
+        async with asyncio.timeout(60):
+            while len(made.waiting) < len(posts):
+                await asyncio.sleep(0.01)
+        self.assertLess(tracemalloc.get_traced_memory()[0], 5_000_000)
+        for task in posts:
+            task.cancel()
+        await asyncio.gather(*posts, return_exceptions=True)
 
 
 class Places(unittest.IsolatedAsyncioTestCase):

@@ -16,6 +16,7 @@ from unittest import mock
 from aiohttp import web
 from ledger_case import FOUNDED, LedgerCase, registration
 from walrus.network import checkpoint, follower
+from walrus.network.checkpoint import line_of
 from walrus.network.client import Network
 from walrus.network.follower import Parted, Refused, Unreachable, View
 from walrus.network.entries import Chain, Entry
@@ -45,8 +46,13 @@ class Streams(LedgerCase):
         told = self.local.told() | {"recorders": [f"127.0.0.1:{runner.addresses[0][1]}"]}
         (self.folder / "network.json").write_text(json.dumps(told))
         self.recorders, self.birth = self.user("publisher"), Chain(0, bytes(32))
+        self.encoded, self.coding = b"", ""  # a reply that goes first, compressed; what the last follower accepts
 
     async def follow(self, request: web.Request) -> web.StreamResponse:
+        self.coding = request.headers.get("Accept-Encoding", "")
+        if sent := self.encoded:
+            self.encoded = b""
+            return web.Response(body=sent, headers={"Content-Encoding": "deflate"})
         self.asked.append(int(request.query["after"]))
         status, lines = self.streams.pop(0)
         response = web.StreamResponse(status=status)
@@ -173,6 +179,57 @@ class Streams(LedgerCase):
         self.assertLess(tracemalloc.get_traced_memory()[1], 20_000_000)
         self.assertEqual(self.asked, [0, *[5] * (len(wrong) + 1)])
         self.assertEqual([*view.state.written()], [*later.written()])
+
+    async def test_what_is_no_number_is_not_taken(self) -> None:
+        """A place such as NaN would pass as none that lies behind, and stay in the state over restarts. Whatever else
+        a recorder makes up does not end its followers either."""
+        (_, texts, end), more = self.state(5), registration("y", 99)
+        begun, first = self.first(self.birth) | {"head": end.place}, self.first(end) | {"head": end.place}
+        wrong: list[object] = [first | {"place": it} for it in (float("nan"), 5.0, True, -(10**30), 10**12, "5")]
+        wrong += [first | {"head": float("inf")}, first | {"place": 6, "pieces": float("inf")}]
+        wrong += [b"[" * 200_000, b"x" * 3_000_000, {"tail": [], "error": "none"}, {"tail": 10**30, "error": "none"}]
+        self.streams = [(200, [begun, {"entries": texts, "digest": end.digest.hex()}])]
+        self.streams += [*((200, [it]) for it in wrong)]
+        self.streams += [(200, [first, {"entries": [more], "digest": end.behind([more]).digest.hex()}, 9.0])]
+        view = View(self.user("publisher"), State(str(self.folder / "state"), tail=2))
+        self.addCleanup(view.state.close)
+        self.asked = []
+        await self.heard(view, end.place + 1)
+        self.assertEqual(self.asked, [0, *[5] * (len(wrong) + 1)])
+
+    async def test_a_state_beside_blobs_that_would_fill_the_memory_is_not_taken(self) -> None:
+        """Each of its pieces is short enough, but all are in memory together, and are written with each commit."""
+        (_, texts, end), (later, _, last) = self.state(5), self.state(9)
+        begun = self.first(self.birth) | {"head": end.place}
+        told, parts = self.packed(later, last)
+        long = [[f"{'a' * 65_000}{number}-{it}" for it in range(16)] for number in range(30)]
+        pieces = [b"".join(line_of(["past", it, 0]) for it in names) for names in long]
+        packed, text = [zlib.compress(it) for it in pieces], b"".join([*pieces, *later.written()])
+        self.assertLess(sum(map(len, packed)), 80_000)
+        lines = [*({"piece": base64.b64encode(it).decode()} for it in packed), *parts]
+        wrong = told | {"pieces": len(lines), "state": hashlib.sha256(text).hexdigest()}
+        self.streams = [(200, [begun, {"entries": texts, "digest": end.digest.hex()}])]
+        self.streams += [(200, [wrong, *lines]), (200, [told, *parts, 9.0])]
+        view = View(self.user("publisher"))
+        self.addCleanup(view.state.close)
+        self.asked = []
+        await self.heard(view, last.place)
+        self.assertEqual((self.asked, len(view.ledger.past)), ([0, 5, 5], 0))
+        self.assertEqual([*view.state.written()], [*later.written()])
+
+    async def test_what_a_recorder_compresses_is_not_decompressed(self) -> None:
+        """Otherwise a few bytes take much memory before anything has looked at them."""
+        _, texts, end = self.state(5)
+        begun = self.first(self.birth) | {"head": end.place}
+        self.encoded = zlib.compress(bytes(30_000_000), 9)
+        self.streams = [(200, [begun, {"entries": texts, "digest": end.digest.hex()}, 9.0])]
+        view = View(self.user("publisher"))
+        self.addCleanup(view.state.close)
+        tracemalloc.start()
+        self.addCleanup(tracemalloc.stop)
+        await self.heard(view, end.place)
+        self.assertEqual((self.encoded, self.coding), (b"", "identity"))
+        self.assertLess(tracemalloc.get_traced_memory()[1], 10_000_000)
 
     async def test_who_begins_to_follow_waits_for_as_long_as_more_comes(self) -> None:
         """A recorder may send a checkpoint or entries for longer than any deadline. One that stops, or breaks off at

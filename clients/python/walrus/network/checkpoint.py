@@ -15,6 +15,7 @@ from .entries import Chain
 
 LONGEST = 1_048_576  # bytes of a piece before it is compressed
 MOST_PIECES = 65_536  # of a checkpoint: more than any etcd has room for
+MOST_FIELDS = 16_777_216  # bytes of its lines beside those of blobs: all are in memory, and written with each commit
 WRONG = ValueError, LookupError, TypeError, AttributeError, ArithmeticError, RecursionError  # raised by a wrong text
 # Of a blob: identifier, number, until, poster, votes, and the epochs in which it was certified and declared invalid.
 Row = tuple[bytes, int, int, str, str, Optional[int], Optional[int]]
@@ -81,13 +82,19 @@ def unpacked(piece: bytes) -> bytes:
 
 
 def read(pieces: Iterable[bytes], fields: dict[str, Any]) -> Iterator[Row]:
-    """Yields the rows of blobs in compressed pieces, and puts the rest of the state into `fields` meanwhile."""
+    """Yields the rows of blobs in compressed pieces, and puts the rest of the state into `fields` meanwhile. Raises
+    `Unfit` if that is too much: a few bytes of pieces could fill the memory with it."""
+    size = 0
     for piece in pieces:
         for line in unpacked(piece).splitlines():
             name, *values = json.loads(line)
             if len(values) == 6:
                 yield bytes.fromhex(name), values[0], values[1], values[2], values[3], values[4], values[5]
-            elif len(values) == 2:
+                continue
+            size += len(line)
+            if size > MOST_FIELDS:
+                raise Unfit(f"the checkpoint has more than {MOST_FIELDS} bytes beside its blobs")
+            if len(values) == 2:
                 fields.setdefault(name, {})[values[0]] = values[1]
             else:
                 fields[name] = values[0]

@@ -10,9 +10,10 @@ import time
 from typing import Any, AsyncGenerator, AsyncIterator, Callable, NamedTuple, Optional, Sequence, Union
 
 import aiohttp
+from aiohttp import http_exceptions
 
 from .checkpoint import MOST_PIECES, Pieces, Unfit
-from .entries import Chain, Entry, fitting
+from .entries import DIGITS, Chain, Entry, fitting
 from .ledger import Ledger
 from .state import State
 from .waiting import Waiting
@@ -26,7 +27,8 @@ AGAIN, FULL = (
 )  # seconds until another recorder is asked for a checkpoint that was none; for one that the disk did not take
 MOST, MOST_BYTES = 1_000, 262_144  # entries that are posted at once, and their bytes
 PARTED = "it is another ledger, or one that was restored (network/OPERATING.md)"
-PASSING = (aiohttp.ClientError, ConnectionError, TimeoutError, ValueError, KeyError, TypeError)
+MADE_UP = ValueError, KeyError, TypeError, RecursionError  # raised by what a recorder makes up
+PASSING = (aiohttp.ClientError, http_exceptions.HttpProcessingError, ConnectionError, TimeoutError, *MADE_UP)
 
 
 class Refused(PermissionError):
@@ -64,6 +66,14 @@ class News(NamedTuple):
     pieces: Union[list[bytes], Pieces] = []  # of a checkpoint at that place, which replaces all entries up to there
 
 
+def whole(value: object) -> int:
+    """Returns a place or a number of pieces; raises `ValueError` for what is none, such as NaN, which no comparison of
+    places refuses."""
+    if type(value) is not int or not 0 <= value < 10**DIGITS:
+        raise ValueError(f"a recorder sends {str(value)[:40]} where a number should be")
+    return value
+
+
 class Recorders:
     """The recorders of a ledger, reached with a certificate, whose name is the poster's. Any of them will do."""
 
@@ -73,7 +83,9 @@ class Recorders:
         self.known: list[tuple[str, aiohttp.ClientSession]] = []
         for host, _, port in (it.rpartition(":") for it in addresses):
             connector = aiohttp.TCPConnector(ssl=context, resolver=Resolver(host.strip("[]")), limit=0)
-            session = aiohttp.ClientSession(connector=connector, cookie_jar=jar, read_bufsize=LONGEST_LINE)
+            words: dict[str, Any] = {"cookie_jar": jar, "read_bufsize": LONGEST_LINE}
+            words |= {"auto_decompress": False, "headers": {"Accept-Encoding": "identity"}}  # few bytes may become many
+            session = aiohttp.ClientSession(connector=connector, **words)
             self.known.append((f"https://{NAME}:{port}/v1/", session))
         self.at, self.said = random.randrange(len(self.known)), "it is too slow"
         self.folder: Optional[str] = None  # where a checkpoint is kept while it comes; None: the system's folder for it
@@ -168,14 +180,14 @@ class Recorders:
             read = said.content.readline
             told = json.loads(await read())
             if "tail" in told:  # restoring.py asks so for what is kept here, and gets it, or a part
-                entries = self.tail(place := told["tail"], 4 * MOST)
+                entries = self.tail(place := whole(told["tail"]), 4 * MOST)
                 after = entries[0].place - 1 if entries else place
                 body = {"after": after, "digest": self.digest(after)}
                 await self.ask("tail", body | {"entries": fitting((it.text for it in entries), MOST_BYTES)}, at)
                 raise Unreachable(told["error"])
             if said.status != 200:
                 raise {403: Refused, 409: Parted}.get(said.status, ConnectionError)(told["error"])
-            head, begun = int(told["head"]), Chain(told.get("place", place), bytes.fromhex(told["digest"]))
+            head, begun = whole(told["head"]), Chain(whole(told.get("place", place)), bytes.fromhex(told["digest"]))
             if ledger not in ("", told["ledger"]) or chain and begun.place == place and chain != begun:
                 raise Parted(f"the ledger's first {place} entries are others than were heard before: {PARTED}")
             count = self.must_lead_on(told, begun, place)
@@ -201,7 +213,7 @@ class Recorders:
     def must_lead_on(self, told: dict[str, Any], begun: Chain, place: int) -> int:
         """Returns the number of pieces of the checkpoint that a stream begins with. It must be of a place behind which
         nothing was heard yet: an older one would take back what was heard, as would one of another ledger."""
-        count = int(told.get("pieces", 0))
+        count = whole(told.get("pieces", 0))
         if begun.place < place:
             known = self.digest(begun.place)
             if known not in ("", begun.digest.hex()):

@@ -103,6 +103,7 @@ class Service(Server):
                 body = b""
             async with held_twice(self.turns[name]):
                 taken = self.take(name, body)
+            body, request._read_bytes = b"", None  # aiohttp keeps it too: it would be in memory while its entries wait
         if isinstance(taken, web.Response):
             return taken
         try:
