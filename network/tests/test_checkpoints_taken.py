@@ -164,6 +164,14 @@ class Taking(RecorderCase):
             self.addCleanup(again.close)
             self.assertEqual([*again.written()], [*ahead.state.written()])
 
+    async def test_a_line_longer_than_a_piece_is_a_piece_of_its_own(self) -> None:
+        """As of a blob that very many names keep; several lines may not be as long together."""
+        line = state.checkpoint.line_of(["past", "x" * state.checkpoint.LONGEST, 1])
+        self.assertEqual(state.checkpoint.unpacked(zlib.compress(line)), line)
+        for text in (line + line, b"x" * (state.checkpoint.MOST_FIELDS + 1)):
+            with self.assertRaises(state.checkpoint.Unfit):
+                state.checkpoint.unpacked(zlib.compress(text))
+
     async def test_who_is_new_waits_for_a_checkpoint_however_long_it_takes(self) -> None:
         ahead, until = await self.recorder(FOUNDED, registration("x", 1)), View.until
         pieces = [*map(zlib.compress, ahead.state.written())]

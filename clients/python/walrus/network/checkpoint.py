@@ -71,11 +71,11 @@ def unpacked(piece: bytes) -> bytes:
     """Decompresses a piece, up to the size of one: a few bytes could fill the memory. Raises `Unfit`."""
     packed = zlib.decompressobj()
     try:
-        text = packed.decompress(piece, LONGEST + 1)
+        text = packed.decompress(piece, MOST_FIELDS + 1)
     except zlib.error as fault:
         raise Unfit(f"a piece of the checkpoint is damaged: {fault}") from None
-    if len(text) > LONGEST:
-        raise Unfit(f"a piece of the checkpoint has more than {LONGEST} bytes")
+    if len(text) > (LONGEST if b"\n" in text[:-1] else MOST_FIELDS):  # a longer line is a piece of its own
+        raise Unfit(f"a piece of the checkpoint has more than {LONGEST} bytes, or a line more than {MOST_FIELDS}")
     if not packed.eof or packed.unused_data:
         raise Unfit("a piece of the checkpoint is damaged: it does not end where it should")
     return text
