@@ -64,6 +64,24 @@ class Folders(unittest.TestCase):
         with self.assertRaisesRegex(Foreign, f"below {net}, whose owner .65534. may exchange it"):
             make_folder(net / "mine")
 
+    @unittest.skipIf(os.getuid(), "only root makes a link of another user")
+    def test_one_that_a_link_of_another_user_points_to_is_refused(self) -> None:
+        own, link = self.folder / "own", self.folder / "link"
+        own.mkdir(mode=0o755)
+        link.symlink_to(own)
+        make_folder(link)
+        self.assertEqual(mode(own), 0o700)
+        own.chmod(0o755)
+        (self.folder / "through").symlink_to("link")
+        os.chown(link, NOBODY, NOBODY, follow_symlinks=False)
+        for place in (link, self.folder / "through", link / "new"):
+            with self.assertRaisesRegex(Foreign, f"{link} is a link of another user .65534., and may point anywhere"):
+                make_folder(place)
+            words = mock.Mock(folder=place, detach=False, add="", nodes="", faults=1)
+            with mock.patch.object(up, "find_program", lambda: sys.executable), self.assertRaises(Foreign):
+                asyncio.run(up.up(words, mock.Mock()))
+        self.assertEqual((mode(own), [*own.iterdir()]), (0o755, []))
+
     def test_one_in_a_folder_of_everybody_is_refused(self) -> None:
         every = self.folder / "every"
         every.mkdir()
@@ -86,7 +104,7 @@ class Folders(unittest.TestCase):
         self.assertEqual([it.name for it in net.iterdir()], ["node-0.toml"])
 
     def test_what_is_there_of_a_database_is_closed(self) -> None:
-        names = ["a.db", "a.db-wal", "a.db.lock", "a.ledger", "a.ledger.lock"]
+        names = ["a.db", "a.db-wal", "a.db.lock", "a.ledger", "a.ledger.lock", "a.parts.lock"]
         for name in names:
             (self.folder / name).touch(0o644)
         (self.folder / "a.parts").mkdir(0o755)
