@@ -39,6 +39,16 @@ class Files(unittest.TestCase):
         rest = Span(made, 24)
         self.assertEqual((rest[:], rest[32:64], len(rest)), (data[24:], data[56:88], len(data) - 24))
 
+    def test_what_is_read_beside_a_short_span_takes_no_memory(self) -> None:
+        """A slow client holds the part that it was sent last."""
+        data, made = os.urandom(2 * CHUNK), Sealed()
+        made.add(data)
+        for start, end in ((0, 9), (9, CHUNK // 4), (CHUNK - 1, CHUNK + 1)):
+            for read in (made.read, made.at_once):
+                part = read(start, end)
+                if part is not None:  # None if this system does not tell what it has in memory
+                    self.assertEqual((bytes(part), len(bytes(part.obj))), (data[start:end], end - start))
+
     def test_what_is_cut_is_written_anew(self) -> None:
         for end in (0, 1, FRONT, CHUNK - 1, CHUNK, CHUNK + 1, 2 * CHUNK):
             data, made = os.urandom(2 * CHUNK), Sealed()
