@@ -145,10 +145,20 @@ class Ports(unittest.TestCase):
                 self.assertIn(f"process {os.getpid()} ({sys.executable}", text)
                 self.assertIn(f"end it (kill {os.getpid()}), and start again", text)
         must_be_free("node-0", "127.0.0.1", port)
-        self.assertEqual(holder_of(port), "")
+        self.assertEqual(holder_of("127.0.0.1", port), "")
         with socket.create_server(("127.0.0.1", 0)) as held, mock.patch.dict(os.environ, {"PATH": ""}):
             with self.assertRaisesRegex(Held, "another process holds it, which this user cannot see; find it as root"):
                 must_be_free("node-0", "127.0.0.1", held.getsockname()[1])
+
+    @unittest.skipIf(shutil.which("ss") is None, "ss is not here (iproute2)")
+    def test_who_holds_it_of_another_address_is_not_named(self) -> None:
+        with socket.create_server(("127.0.0.2", 0)) as held:
+            port = held.getsockname()[1]
+            self.assertTrue(holder_of("127.0.0.2", port))
+            self.assertTrue(holder_of("0.0.0.0", port))
+            self.assertEqual(holder_of("127.0.0.1", port), "")
+        with socket.create_server(("0.0.0.0", 0)) as held:
+            self.assertTrue(holder_of("localhost", held.getsockname()[1]))
 
 
 PARENT = f"""import asyncio, pathlib, sys
