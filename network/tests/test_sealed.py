@@ -134,7 +134,8 @@ class Spools(unittest.IsolatedAsyncioTestCase):
     async def test_a_file_that_is_read_in_parts_is_checked_once(self) -> None:
         data = os.urandom(3 * CHUNK + 9)
         made, checked = put_away(data), checks(self)
-        self.assertEqual(b"".join([bytes(it) async for it in pieces.parts_of(made, CHUNK + 5)]), data[CHUNK + 5 :])
+        read = [bytes(it) async for it in pieces.parts_of(made, CHUNK + 5)]
+        self.assertEqual(b"".join(read), data[CHUNK + 5 :])  # noqa: E203
         self.assertEqual(checked.call_count, 3)
 
     async def test_a_piece_that_a_disk_has_changed_while_it_arrived_is_not_stored(self) -> None:

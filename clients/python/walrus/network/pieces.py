@@ -54,7 +54,7 @@ async def part_of(blob: Blob, start: int, end: int) -> Union[bytes, memoryview]:
 
 
 async def parts_of(blob: Blob, start: int = 0) -> AsyncIterator[Union[bytes, memoryview]]:
-    """Yields a blob from a byte on in parts; raises as `part_of` does. Each chunk of a file is read, and checked, once."""
+    """Yields a blob from a byte on in parts; raises as `part_of` does. A chunk of a file is read and checked once."""
     while start < len(blob):
         end = min((start // CHUNK + 1) * CHUNK, len(blob))
         yield await part_of(blob, start, end)

@@ -242,19 +242,12 @@ class Reader:
                 pass
 
     async def send_span(
-        self,
-        pace: "Pace",
-        response: web.StreamResponse,
-        file: File,
-        span: ranges.Span,
-        owner: str,
-        ready: Optional[list[Data]] = None,
+        self, pace: "Pace", response: web.StreamResponse, file: File, span: ranges.Span, owner: str, ready: list[Data]
     ) -> None:
-        """Sends a span of a file; `ready` has the first part of it, if that was read."""
         self.read_ahead(itertools.islice(file.pieces(*span), 1, AHEAD))
         following = itertools.islice(file.pieces(*span), AHEAD, None)
         for name, size, start, end in file.pieces(*span):
-            sending = Sending(self.write, pace, response, start, end, ready or [])
+            sending = Sending(self.write, pace, response, start, end, ready)
 
             async def send(blob: Blob, sending: Sending = sending) -> None:
                 self.read_ahead(itertools.islice(following, 1))
