@@ -166,7 +166,7 @@ class Ahead(unittest.IsolatedAsyncioTestCase):
             self.addAsyncCleanup(reader.cache.close)
             response = mock.Mock(write=mock.AsyncMock(side_effect=lambda _: sent.append(later in reader.cache.entries)))
             with mock.patch.object(chunks, "PIECE", 7):
-                sending = reader.send_span(Pace(), response, chunks.File(14, first + later), (6, 8), "somebody")
+                sending = reader.send_span(Pace(), response, chunks.File(14, first + later), (6, 8), "somebody", [])
                 try:
                     await sending
                 except problems.Problem as problem:

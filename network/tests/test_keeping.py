@@ -40,7 +40,7 @@ class Keeping(unittest.IsolatedAsyncioTestCase):
 
             turns.ASKING.set(whom)
             file = File(262_144, number.to_bytes(NAME, "big"))
-            await self.reader.send_span(reading.Pace(), mock.Mock(write=write), file, (0, 262_144), whom)
+            await self.reader.send_span(reading.Pace(), mock.Mock(write=write), file, (0, 262_144), whom, [])
 
         begun = [asyncio.create_task(send("slow", it)) for it in range(200)]
         begun += [asyncio.create_task(send("other", it)) for it in range(200, 230)]

@@ -64,6 +64,24 @@ class Folders(unittest.TestCase):
         with self.assertRaisesRegex(Foreign, f"below {net}, whose owner .65534. may exchange it"):
             make_folder(net / "mine")
 
+    @unittest.skipIf(os.getuid(), "only root makes a link of another user")
+    def test_one_that_a_link_of_another_user_points_to_is_refused(self) -> None:
+        own, link = self.folder / "own", self.folder / "link"
+        own.mkdir(mode=0o755)
+        link.symlink_to(own)
+        make_folder(link)
+        self.assertEqual(mode(own), 0o700)
+        own.chmod(0o755)
+        (self.folder / "through").symlink_to("link")
+        os.chown(link, NOBODY, NOBODY, follow_symlinks=False)
+        for place in (link, self.folder / "through", link / "new"):
+            with self.assertRaisesRegex(Foreign, f"{link} is a link of another user .65534., and may point anywhere"):
+                make_folder(place)
+            words = mock.Mock(folder=place, detach=False, add="", nodes="", faults=1)
+            with mock.patch.object(up, "find_program", lambda: sys.executable), self.assertRaises(Foreign):
+                asyncio.run(up.up(words, mock.Mock()))
+        self.assertEqual((mode(own), [*own.iterdir()]), (0o755, []))
+
     def test_one_in_a_folder_of_everybody_is_refused(self) -> None:
         every = self.folder / "every"
         every.mkdir()
@@ -86,7 +104,7 @@ class Folders(unittest.TestCase):
         self.assertEqual([it.name for it in net.iterdir()], ["node-0.toml"])
 
     def test_what_is_there_of_a_database_is_closed(self) -> None:
-        names = ["a.db", "a.db-wal", "a.db.lock", "a.ledger", "a.ledger.lock"]
+        names = ["a.db", "a.db-wal", "a.db.lock", "a.ledger", "a.ledger.lock", "a.parts.lock"]
         for name in names:
             (self.folder / name).touch(0o644)
         (self.folder / "a.parts").mkdir(0o755)
@@ -127,10 +145,20 @@ class Ports(unittest.TestCase):
                 self.assertIn(f"process {os.getpid()} ({sys.executable}", text)
                 self.assertIn(f"end it (kill {os.getpid()}), and start again", text)
         must_be_free("node-0", "127.0.0.1", port)
-        self.assertEqual(holder_of(port), "")
+        self.assertEqual(holder_of("127.0.0.1", port), "")
         with socket.create_server(("127.0.0.1", 0)) as held, mock.patch.dict(os.environ, {"PATH": ""}):
             with self.assertRaisesRegex(Held, "another process holds it, which this user cannot see; find it as root"):
                 must_be_free("node-0", "127.0.0.1", held.getsockname()[1])
+
+    @unittest.skipIf(shutil.which("ss") is None, "ss is not here (iproute2)")
+    def test_who_holds_it_of_another_address_is_not_named(self) -> None:
+        with socket.create_server(("127.0.0.2", 0)) as held:
+            port = held.getsockname()[1]
+            self.assertTrue(holder_of("127.0.0.2", port))
+            self.assertTrue(holder_of("0.0.0.0", port))
+            self.assertEqual(holder_of("127.0.0.1", port), "")
+        with socket.create_server(("0.0.0.0", 0)) as held:
+            self.assertTrue(holder_of("localhost", held.getsockname()[1]))
 
 
 PARENT = f"""import asyncio, pathlib, sys

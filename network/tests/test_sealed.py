@@ -10,10 +10,11 @@ from typing import IO, Any, AsyncIterator
 from unittest import mock
 
 import harness  # noqa: F401  # which says where walrus is
+from cryptography.hazmat.primitives.poly1305 import Poly1305
 from folder_case import manifest_of
 from harm_case import HarmCase
 from upload_case import UploadCase
-from walrus.network import pieces
+from walrus.network import pieces, sealed
 from walrus.network.manifest import Manifest, Place
 from walrus.network.sealed import CHUNK, FRONT, Damaged, Sealed, Span, put_away
 from walrus.network.sending import SLICE
@@ -38,6 +39,16 @@ class Files(unittest.TestCase):
             self.assertEqual(made.peek(start, end), data[start:end])
         rest = Span(made, 24)
         self.assertEqual((rest[:], rest[32:64], len(rest)), (data[24:], data[56:88], len(data) - 24))
+
+    def test_what_is_read_beside_a_short_span_takes_no_memory(self) -> None:
+        """A slow client holds the part that it was sent last."""
+        data, made = os.urandom(2 * CHUNK), Sealed()
+        made.add(data)
+        for start, end in ((0, 9), (9, CHUNK // 4), (CHUNK - 1, CHUNK + 1)):
+            for read in (made.read, made.at_once):
+                part = read(start, end)
+                if part is not None:  # None if this system does not tell what it has in memory
+                    self.assertEqual((bytes(part), len(bytes(part.obj))), (data[start:end], end - start))
 
     def test_what_is_cut_is_written_anew(self) -> None:
         for end in (0, 1, FRONT, CHUNK - 1, CHUNK, CHUNK + 1, 2 * CHUNK):
@@ -112,7 +123,21 @@ class Files(unittest.TestCase):
         self.assertTrue(other.is_damaged())
 
 
+def checks(case: unittest.TestCase) -> mock.Mock:
+    """Counts the chunks that are checked from here on."""
+    made = mock.Mock(side_effect=Poly1305.generate_tag)
+    case.enterContext(mock.patch.object(sealed, "Poly1305", mock.Mock(generate_tag=made)))
+    return made
+
+
 class Spools(unittest.IsolatedAsyncioTestCase):
+    async def test_a_file_that_is_read_in_parts_is_checked_once(self) -> None:
+        data = os.urandom(3 * CHUNK + 9)
+        made, checked = put_away(data), checks(self)
+        read = [bytes(it) async for it in pieces.parts_of(made, CHUNK + 5)]
+        self.assertEqual(b"".join(read), data[CHUNK + 5 :])  # noqa: E203
+        self.assertEqual(checked.call_count, 3)
+
     async def test_a_piece_that_a_disk_has_changed_while_it_arrived_is_not_stored(self) -> None:
         async def parts() -> AsyncIterator[bytes]:
             for _ in range(4):
@@ -175,6 +200,18 @@ class Served(HarmCase):
             status, headers, body = await self.read()
             self.assertEqual((status, body, headers["etag"]), (200, self.data, f'"{self.name}"'))
         self.assertEqual(self.fetched, 6)
+
+    async def test_a_short_range_is_read_and_checked_once(self) -> None:
+        await self.read()
+        checked = checks(self)
+        for start, end, chunks in ((0, 9, 1), (3 * SLICE + 5, 3 * SLICE + 900, 1), (SLICE - 9, SLICE + 9, 2)):
+            status, _, body = await self.read(Range=f"bytes={start}-{end - 1}")
+            self.assertEqual((status, body, checked.call_count), (206, self.data[start:end], chunks))
+            checked.reset_mock()
+        status, _, body = await self.read(Range=f"bytes=0-8,{SLICE}-{SLICE + 8}")
+        self.assertEqual((status, checked.call_count), (206, 2))
+        for part in (self.data[:9], self.data[SLICE : SLICE + 9]):  # noqa: E203
+            self.assertIn(part, body)
 
     async def test_a_range_and_a_digest_are_of_what_was_stored(self) -> None:
         await self.read()

@@ -54,9 +54,11 @@ async def part_of(blob: Blob, start: int, end: int) -> Union[bytes, memoryview]:
 
 
 async def parts_of(blob: Blob, start: int = 0) -> AsyncIterator[Union[bytes, memoryview]]:
-    """Yields a blob from a byte on in parts; raises as `part_of` does."""
-    for place in range(start, len(blob), AHEAD):
-        yield await part_of(blob, place, min(place + AHEAD, len(blob)))
+    """Yields a blob from a byte on in parts; raises as `part_of` does. A chunk of a file is read and checked once."""
+    while start < len(blob):
+        end = min((start // CHUNK + 1) * CHUNK, len(blob))
+        yield await part_of(blob, start, end)
+        start = end
 
 
 async def in_memory(blob: Blob) -> Union[bytes, memoryview]:

@@ -21,7 +21,7 @@ from .heads import Lengths
 from .limits import Flow
 from .pieces import Memory, lack_at, part_of, reading_needs
 from .problems import ALONE, BAD, NO_BLOB, Problem
-from .sealed import Blob, Damaged, Sealed, put_away
+from .sealed import Blob, Damaged, Data, Sealed, put_away
 from .sending import PART, SLICE, Sending, ending_early
 from .threads import to_the_end
 from .turns import ASKING, PARTS, WAITING, Together, Turns, owner_of
@@ -208,15 +208,16 @@ class Reader:
             await response.prepare(request)
             return response
         self.read_ahead(itertools.islice(file.pieces(*spans[0]), 1, AHEAD))
+        ready = list[Data]()
         for name, length, start, end in file.pieces(*spans[0]):  # before the response begins, so that it can be refused
-            await self.within(name, lambda blob: part_of(blob, start, min(end, start + PART)), length)
+            ready.append(await self.within(name, lambda blob: part_of(blob, start, min(end, start + PART)), length))
             break
         await response.prepare(request)
         pace = Pace(request.get("flow"))
         with ending_early(request):
             for head, span in zip(heads, spans):
                 await self.write(pace, response, head)
-                await self.send_span(pace, response, file, span, owner_of(request))
+                await self.send_span(pace, response, file, span, owner_of(request), ready)
             await self.write(pace, response, heads[-1])
         return response
 
@@ -241,12 +242,12 @@ class Reader:
                 pass
 
     async def send_span(
-        self, pace: "Pace", response: web.StreamResponse, file: File, span: ranges.Span, owner: str
+        self, pace: "Pace", response: web.StreamResponse, file: File, span: ranges.Span, owner: str, ready: list[Data]
     ) -> None:
         self.read_ahead(itertools.islice(file.pieces(*span), 1, AHEAD))
         following = itertools.islice(file.pieces(*span), AHEAD, None)
         for name, size, start, end in file.pieces(*span):
-            sending = Sending(self.write, pace, response, start, end)
+            sending = Sending(self.write, pace, response, start, end, ready)
 
             async def send(blob: Blob, sending: Sending = sending) -> None:
                 self.read_ahead(itertools.islice(following, 1))

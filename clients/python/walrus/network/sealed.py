@@ -76,8 +76,7 @@ class Sealed(Away):
 
     def read(self, start: int, end: int) -> memoryview:
         at, data = self.chunks(start, end) if start < end else (start, b"")
-        view = memoryview(data)[start - at : end - at]  # noqa: E203
-        return view if 2 * len(view) > len(data) else memoryview(bytes(view))  # what is not asked for takes no memory
+        return span_of(data, start - at, end - at)
 
     def peek(self, start: int, end: int) -> bytes:
         """Like `read`, for a short span. The chunks that it read last stay in memory for the next one."""
@@ -99,7 +98,7 @@ class Sealed(Away):
         if read < len(data):
             return None
         self.check(data, at, first, behind)
-        return memoryview(data)[start - at : end - at]  # noqa: E203
+        return span_of(data, start - at, end - at)
 
     def touched(self, start: int, end: int) -> tuple[int, int]:
         """Returns the number of the first chunk that a span touches, and of the one behind the last."""
@@ -127,6 +126,12 @@ class Sealed(Away):
     def damaged(self, said: str) -> Damaged:
         self.is_damaged = True
         return Damaged(f"a file in {tempfile.gettempdir()} {said}: check the disk of that folder")
+
+
+def span_of(data: Data, start: int, end: int) -> memoryview:
+    """Returns a span of what was read. If that is much more, the rest takes no memory from then on."""
+    view = memoryview(data)[start:end]
+    return view if 2 * len(view) > len(data) else memoryview(bytes(view))
 
 
 class Span:

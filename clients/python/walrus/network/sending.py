@@ -9,7 +9,7 @@ from .. import client
 
 from .pieces import part_of
 from .problems import Problem
-from .sealed import Away, Blob
+from .sealed import Away, Blob, Data
 
 if typing.TYPE_CHECKING:
     from . import reading
@@ -20,17 +20,21 @@ Write = Callable[["reading.Pace", web.StreamResponse, Any], Awaitable[None]]
 
 
 class Sending:
-    """A span of a blob that is being sent, and the place up to which it is sent."""
+    """A span of a blob that is being sent, and the place up to which it is sent. `ready` has what follows there, if it
+    was read: to read some bytes anew takes as long as to read, and check, their whole chunk."""
 
-    def __init__(self, write: Write, pace: "reading.Pace", response: web.StreamResponse, start: int, end: int):
+    def __init__(
+        self, write: Write, pace: "reading.Pace", response: web.StreamResponse, start: int, end: int, ready: list[Data]
+    ):
         self.write, self.pace, self.response, self.place, self.end = write, pace, response, start, end
+        self.ready = ready
 
     async def send(self, blob: Blob) -> None:
         """Sends the rest of the span. To a slow client it sends less at once, as that is in memory meanwhile."""
         while self.place < self.end:
             size = SLICE if self.pace.is_prompt or not isinstance(blob, Away) else PART
             end = min((self.place // size + 1) * size, self.end)  # where a chunk of a file ends
-            part = await part_of(blob, self.place, end)
+            part = self.ready.pop() if self.ready else await part_of(blob, self.place, end)
             await self.write(self.pace, self.response, part)
             self.place += len(part)
 

@@ -28,11 +28,11 @@ def nodes_in(folder: pathlib.Path) -> list[str]:
 async def up(words: argparse.Namespace, options: Options) -> int:
     """Runs etcd, recorders, nodes and a gateway until a signal ends them, or too much has ended for anything to be
     stored. With `--add` it only makes the settings of nodes, and with `--detach` it runs in the background."""
-    folder, program = (words.folder or pathlib.Path("walrus-network")).resolve(), find_program()
+    program = find_program()
     if not os.access(program, os.X_OK):
         raise Failure(f"{program} is not there: build it with ./walrus, or set WALRUS to its path", 1)
     private.close_to_others()
-    private.make_folder(folder)
+    folder = private.make_folder(words.folder or pathlib.Path("walrus-network"))
     if words.detach:
         return detach(folder)
     local = Local(folder, program)
