@@ -77,6 +77,18 @@ class Slow(unittest.IsolatedAsyncioTestCase):
         self.assertLess(sizes()[1], each)  # it began anew
         self.assertEqual(self.store.base.execute("SELECT count(*) FROM contents").fetchone(), (101,))
 
+    async def test_where_memory_lacks_to_bring_the_log_in_the_node_goes_on_and_does_it_later(self) -> None:
+        """Python raises `MemoryError` then, which is no `sqlite3.Error`."""
+        lacking: Any = types.SimpleNamespace(execute=mock.Mock(side_effect=MemoryError))
+        self.store.bring(lacking)
+        lacking.execute.assert_called_once()
+        for _ in range(9):
+            self.goes_on.release()
+        with mock.patch("walrus.network.staged.LONG", 1), mock.patch("sqlite3.connect", side_effect=MemoryError):
+            self.assertTrue(await asyncio.wait_for(self.put(1), 60))
+            await asyncio.wait_for(self.store.calm(), 60)
+        self.assertTrue(await asyncio.wait_for(self.put(2), 60))
+
     async def test_nothing_is_told_before_a_thread_has_synced_it_and_others_go_on_meanwhile(self) -> None:
         first = self.put(1)
         await self.begun(1)

@@ -24,6 +24,7 @@ THREADS = 4  # for work that may wait long for the disk
 Result = TypeVar("Result")
 Written = asyncio.Future[bool]  # whether one group of staged statements is on the disk
 LONG, LONGEST = 4_194_304, 67_108_864  # bytes of SQLite's log that a thread brings into the database; of it in all
+FAULTS = sqlite3.Error, MemoryError  # Python raises the latter where SQLite lacks memory
 SOON, LATER = 0.002, 0.5  # seconds until a commit: if a reply waits for it; if nobody does
 
 
@@ -182,7 +183,7 @@ class Staged(Database):
         self.base.execute(f"PRAGMA cache_spill = {LONGEST}")  # pages: what is staged meanwhile stays in memory
 
         def bring() -> None:
-            with contextlib.suppress(sqlite3.Error), contextlib.closing(sqlite3.connect(self.path)) as base:
+            with contextlib.suppress(*FAULTS), contextlib.closing(sqlite3.connect(self.path)) as base:
                 self.bring(base)
             loop.call_soon_threadsafe(self.is_brought)
 
@@ -198,7 +199,7 @@ class Staged(Database):
             self.flush_due()
 
     def bring(self, base: sqlite3.Connection) -> None:
-        with contextlib.suppress(sqlite3.Error):  # such as of a full disk: the log stays as it is, and is whole
+        with contextlib.suppress(*FAULTS):  # such as of a full disk: the log stays as it is, and is whole
             base.execute("PRAGMA wal_checkpoint(PASSIVE)").fetchall()
 
     async def calm(self) -> None:
