@@ -94,15 +94,36 @@ class Scrubs(NodeCase):
                 sizes = [self.store.sizes(self.shard.holding, 0, name) for name in (kept, over)]
                 self.assertEqual([*map(len, sizes)], [3, held], seconds)
 
-    async def test_what_no_entry_names_goes_at_once_where_the_disk_has_no_room(self) -> None:
+    async def test_what_no_entry_names_stays_for_its_time_where_the_disk_has_no_room_too(self) -> None:
+        """Anybody who may post can fill a disk up to the reserve."""
         assert self.store
         name = (await self.put(bytes(LARGE)))[1][1:33]
         node = self.node({0: {0: self.shard}})
         node.ledger, self.shard.reserve = types.SimpleNamespace(blobs={}), 0.1
-        for free, held in ((0.2, 3), (0.05, 0)):
+        for free in (0.2, 0.05):
             with self.free(free):
                 await scrub.Scrub(node).scrub()
-            self.assertEqual(len(self.store.sizes(self.shard.holding, 0, name)), held)
+            self.assertEqual(len(self.store.sizes(self.shard.holding, 0, name)), 3)
+
+    async def test_what_is_named_again_begins_a_new_time_when_it_is_unnamed_once_more(self) -> None:
+        assert self.store
+        name = (await self.put(bytes(LARGE)))[1][1:33]
+        node, holding = self.node({0: {0: self.shard}}), self.shard.holding
+        node.ledger = types.SimpleNamespace(blobs={})
+        await scrub.Scrub(node).scrub()
+        self.assertEqual(self.store.unnamed_after(0, b"", 9), [(holding, name)])
+        node.ledger = types.SimpleNamespace(blobs={name: None})
+        await scrub.Scrub(node).recall()
+        self.assertEqual(self.store.unnamed_after(0, b"", 9), [])
+
+    async def test_the_number_of_a_holding_that_is_gone_brings_no_old_time_back(self) -> None:
+        assert self.store
+        gone = self.store.stage("INSERT INTO holdings VALUES (NULL)").lastrowid
+        assert gone
+        self.store.unnamed(gone, bytes(32), True)
+        while self.store.sweep():
+            pass
+        self.assertEqual(self.store.unnamed_after(0, b"", 9), [])
 
     async def test_a_file_without_a_row_is_kept_aside_for_a_while_and_goes_back_if_it_is_named_again(self) -> None:
         assert self.store

@@ -13,7 +13,6 @@ import time
 from typing import TYPE_CHECKING
 
 from .recovery import passing
-from .shard import Shard
 from .store import LAST, MARK
 
 if TYPE_CHECKING:
@@ -93,7 +92,7 @@ class Scrub:
             if not shards:
                 place = holding, LAST  # of a shard that is no longer here: `sweep` deletes it
             elif self.node.caught_up and identifier not in self.node.ledger.blobs:
-                await self.let_go(holding, identifier, shards[0])
+                await self.let_go(holding, identifier)
             elif self.tries == TRIES:
                 told = f"the scrub passes over {identifier.hex()}, whose check failed {TRIES} times"
                 print(f"{self.node.name}: {told}", file=sys.stderr, flush=True)
@@ -113,13 +112,13 @@ class Scrub:
         told = f"read {figures.blobs} blobs with {figures.bytes} bytes, of which {figures.wrong} had something wrong"
         print(f"{self.node.name}: a scrub {told}, and put {figures.swept} files aside", file=sys.stderr, flush=True)
 
-    async def let_go(self, holding: int, identifier: bytes, shard: Shard) -> None:
-        """Drop a blob that no entry of the ledger has named for `grace` seconds, or earlier if the disk has no room. It
-        expired, and the ledger's row was lost before it was dropped; or what was heard of the ledger is false, and the
-        blob is named again later: until then its rows and files stay as they are, and nothing else is done with it."""
+    async def let_go(self, holding: int, identifier: bytes) -> None:
+        """Drop a blob that no entry of the ledger has named for `grace` seconds. It expired, and the ledger's row was
+        lost before it was dropped; or what was heard of the ledger is false, and the blob is named again later: until
+        then its rows and files stay as they are, and nothing else is done with it."""
         store = self.node.store
-        since, full = store.unnamed(holding, identifier, True), not shard.free_pages()
-        if full or time.time() >= since + self.node.settings.grace:
+        since = store.unnamed(holding, identifier, True)
+        if time.time() >= since + self.node.settings.grace:
             store.expire([identifier])
         else:
             self.figures.unnamed += 1
@@ -131,10 +130,21 @@ class Scrub:
             await self.left.wait()
             self.left.clear()
             async with passing(self.node.name, "expired blobs and unnamed files are removed later", PAUSE):
+                await self.recall()
                 await self.sweep()
                 await self.expire()
                 continue
             self.left.set()
+
+    async def recall(self) -> None:
+        """Forget of blobs that the ledger names again since when it did not."""
+        store, after = self.node.store, (0, b"")
+        while self.node.caught_up and (rows := store.unnamed_after(*after, AT_ONCE)):
+            after = rows[-1]
+            for holding, identifier in rows:
+                if identifier in self.node.ledger.blobs:
+                    store.unnamed(holding, identifier, False)
+            await store.durable()
 
     async def expire(self) -> None:
         """Drop expired blobs step by step; the ledger keeps their rows until they are off the disk. After a kill the

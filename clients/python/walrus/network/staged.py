@@ -23,7 +23,7 @@ start the node without them: the others fill it (network/OPERATING.md)""".replac
 THREADS = 4  # for work that may wait long for the disk
 Result = TypeVar("Result")
 Written = asyncio.Future[bool]  # whether one group of staged statements is on the disk
-LONG, LONGEST = 4_194_304, 67_108_864  # bytes of SQLite's log that a thread brings into the database; of it in all
+LONG, LONGEST = 4_194_304, 16_777_216  # bytes of SQLite's log that a thread brings into the database; of it in all
 FAULTS = sqlite3.Error, MemoryError  # Python raises the latter where SQLite lacks memory
 SOON, LATER = 0.002, 0.5  # seconds until a commit: if a reply waits for it; if nobody does
 

@@ -216,6 +216,11 @@ class Store(Staged):
             self.stage("INSERT INTO unnamed VALUES (?, ?, ?)", holding, identifier, now)
         return min(float(row[0]), now) if row else now
 
+    def unnamed_after(self, holding: int, identifier: bytes, count: int) -> list[tuple[int, bytes]]:
+        """Return up to `count` blobs that no entry of the ledger named when they were looked at, after this one."""
+        words = "SELECT holding, identifier FROM unnamed WHERE (holding, identifier) > (?, ?) ORDER BY 1, 2 LIMIT ?"
+        return self.base.execute(words, (holding, identifier, count)).fetchall()
+
     def sweep(self) -> bool:
         """Stage the deletion of some parts that every committee here has forgotten, or else of some blobs of a shard
         that is no longer here; return whether there were any."""
@@ -229,6 +234,7 @@ class Store(Staged):
             some = f"SELECT DISTINCT identifier FROM held WHERE holding = ? LIMIT {BATCH}"
             if not self.drop(f"holding = ? AND identifier IN ({some})", row[0], row[0]):
                 self.stage("DELETE FROM holdings WHERE holding = ?", row[0])
+                self.stage("DELETE FROM unnamed WHERE holding = ?", row[0])  # the number may be given again
         return bool(gone or row)
 
     def state(self, name: str, value: Optional[str] = None) -> str:
