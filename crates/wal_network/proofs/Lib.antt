@@ -6,3 +6,4 @@ pub mod Landing
 pub mod Whole
 mod Common
 pub mod Safe
+pub mod Honest

@@ -42,12 +42,12 @@ module _ (r : Rules) (laws : Laws r) (network : Network) (size : ℕ) (history :
       let turns = begun (log_at network at) owners (orderly_at r laws network size history at (omega (arith, lt))) lands.0 in
       let serving : writing (log_at network at) ≡ reading (log_at network at) = omega (arith, ap {B = ℕ} (λ m. cond m 1 0) lands.0) in
       ⊎_elim (λ next. rw next
-          (⊎_elim (λ yes. rw yes
-              (sound (writing (log_at network at)) writes (ap (λ (n : ℕ). among (network.faulty n) s) serving ∙ (let both = yes in grind arith))))
-          (λ no. rw no (empty_sound s)) (flag (is_moved network at owners s))))
+      (⊎_elim (λ yes. rw yes
+      (sound (writing (log_at network at)) writes (ap (λ (n : ℕ). among (network.faulty n) s) serving ∙ (let both = yes in grind arith))))
+      (λ no. rw no (empty_sound s)) (flag (is_moved network at owners s))))
       (λ other. rw other
-          (near at e s (Body.Begin owners) correct sound (omega (arith, turns.same_epoch))
-          (omega (arith, (bounds (entered (log_at network at) (Body.Begin owners)) e there).1, turns.next_epoch, serving, apart (eqb-false e (writing (log_at network at) + 1) other))) there))
+      (near at e s (Body.Begin owners) correct sound (omega (arith, turns.same_epoch))
+      (omega (arith, (bounds (entered (log_at network at) (Body.Begin owners)) e there).1, turns.next_epoch, serving, apart (eqb-false e (writing (log_at network at) + 1) other))) there))
       (flag (nat_eq e (writing (log_at network at) + 1)))
     where
       apart : {a b : ℕ} → (a ≡ b → ⊥) → (a < b) ⊎ (b < a)

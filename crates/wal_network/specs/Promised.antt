@@ -1,12 +1,13 @@
 -- What is promised of every history of a network, in the network's own words.
 use Rattle.std.specs.Prelude.{◌≡◌, ◌≢◌, ℕ, ◌+◌, ◌<◌, ◌≤◌, Bool, true, false, not, ◌&&◌}
-use Rattle.std.specs.Prelude.{List, Option, Some, All, Contains}
+use Rattle.std.specs.Prelude.{List, [], length, Option, Some, All, Contains}
 use Rattle.wal_shape.specs.declared.metadata.BlobId.{BlobId}
 use Rattle.wal_shape.specs.declared.axis.Axis.{Axis}
 use Rattle.wal_shape.specs.declared.axis.Side.{Side}
 use Rattle.wal_shape.specs.declared.axis.Side.TheVariants.{Now, Next}
 use Rattle.wal_shape.specs.declared.shape.Format.{Format}
 use Rattle.wal_shape.specs.Owners.{among}
+use Rattle.wal_shape.specs.Shape.{most_bytes}
 use Rattle.wal_evidence.specs.declared.evidence.Evidence.{Evidence}
 use Rattle.wal_evidence.specs.declared.evidence.Verdict.{Verdict}
 use Rattle.wal_evidence.specs.declared.evidence.Verdict.TheVariants as verdict
@@ -24,7 +25,7 @@ use Rattle.wal_protocol.specs.Rules.{Rules}
 use Rattle.wal_protocol.specs.Step.{told_by}
 use Rattle.wal_protocol.specs.Total.{Possible, AreBytes}
 use Rattle.wal_network.specs.Deeds.{Done}
-use Rattle.wal_network.specs.Network.{Network, log_at, leaves_with, IsThere}
+use Rattle.wal_network.specs.Network.{Network, log_at, leaves_with, IsThere, IsHistory}
 use Rattle.wal_network.specs.AsRun.{HasFew}
 
 -- the epoch of the committee of a side
@@ -126,3 +127,12 @@ AnswersAgree rules =
     (id : BlobId) (told other : Verdict) → Answers rules id told → Answers rules id other
     → told ≢ other
     → Possible ((left : List ℕ) × (right : List ℕ) × rules.IsCollision left right)
+
+-- A BLOB CAN BE CERTIFIED: there is a history in which no shard is faulty, and a correct node, having
+-- taken an honest writer's message for each of its shards, claims a blob and so certifies it
+abbrev pub CanCertify : Rules → Type 0
+CanCertify rules =
+    (format : Format) (blob : List ℕ) → length blob ≤ most_bytes → AreBytes blob
+    → (id : BlobId) × (message : ℕ → List Frame) × rules.IsMessage format blob id message
+    × (network : Network) × (size : ℕ) × IsHistory rules network size
+    × ((epoch : ℕ) → network.faulty epoch ≡ []) × IsCertified (log_at network size) id

@@ -4,7 +4,7 @@ ghost use Rattle.std.specs.Prelude.{ℕ, ◌≤◌};
 ghost use Rattle.wal_theorem.specs.Instance.{rules_of};
 ghost use Rattle.wal_network.specs.Network.{Network, IsHistory};
 ghost use Rattle.wal_network.specs.AsRun.{IsRunOfWorld};
-ghost use Rattle.wal_network.specs.Promised.{AnswersAgree, IsSafeNetwork};
+ghost use Rattle.wal_network.specs.Promised.{AnswersAgree, CanCertify, IsSafeNetwork};
 
 use wal_tree::Hash32;
 
@@ -24,4 +24,10 @@ pub fn every_network<H: Hash32>()
 /// agree, or it is impossible that no two texts have one digest.
 pub fn every_answer<H: Hash32>()
     ensures agree { (f : ℕ) → f ≤ 333 → AnswersAgree (rules_of H.digest f) }
+{}
+
+/// Each blob has a history in which it is certified and no shard is faulty: so what is said of every
+/// history is not said of none, nor only of those in which nothing is claimed.
+pub fn every_blob<H: Hash32>()
+    ensures certified { (f : ℕ) → 1 ≤ f → f ≤ 333 → CanCertify (rules_of H.digest f) }
 {}

@@ -4,4 +4,4 @@
 
 mod laws;
 
-pub use laws::{every_answer, every_network};
+pub use laws::{every_answer, every_blob, every_network};
