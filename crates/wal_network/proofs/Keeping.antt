@@ -1,5 +1,5 @@
 -- What deeds leave of what is held.
-use Rattle.wal_network.proofs.Common.{◌≢◌, ◌≡◌, ℕ, zero, suc, ◌<◌, List, [], ◌∷◌, length, get_or, true, is_some, sym, refl, ap, subst, arith, ⊎_elim, ◌∙◌, Axis, BlobId, Kind, Holds, Denies, Log, Contents, parts_at, Parts, part_of, Metadata, Primary, Secondary, Proof, has_proof, backs, PutAnswer, Rules, Laws, IsAbove, AreAbove, AllSound, Line}
+use Rattle.wal_network.proofs.Common.{◌≢◌, ◌≡◌, ℕ, zero, suc, ◌<◌, List, [], ◌∷◌, take, length, get_or, true, is_some, sym, refl, ap, subst, arith, ⊎_elim, ◌∙◌, Axis, BlobId, Kind, Holds, Denies, Log, Contents, parts_at, Parts, part_of, Metadata, Primary, Secondary, Proof, has_proof, backs, PutAnswer, Rules, Laws, IsAbove, AreAbove, AllSound, Line}
 use Rattle.wal_shape.specs.declared.part.Part.{Part}
 use Rattle.wal_event.specs.declared.line.Line.TheVariants as line
 use Rattle.wal_event.specs.declared.line.RecoverWord.TheVariants as recovering
@@ -54,6 +54,12 @@ module _ (r : Rules) (laws : Laws r) (log : Log) (s : ℕ) where
         firmer = λ id. record { settles = λ h. (rest.firmer id).settles ((one.firmer id).settles h); by_proof = λ h. (rest.firmer id).by_proof ((one.firmer id).by_proof h) };
         sound = λ h. rest.sound (one.sound h);
       }
+
+  -- the first of them are deeds too
+  pub acts_first : (old : Contents) (dones : List Done) (k : ℕ) → ActsEach r log s old dones → ActsEach r log s old (take k dones)
+  acts_first old dones zero acts = tt
+  acts_first old [] (suc k) acts = tt
+  acts_first old (done ∷ more) (suc k) acts = (acts.0, acts_first done.after more k acts.1, acts.2)
 
   -- a sliver that was recovered is committed
   act_commits : (old : Contents) (deed : Deed) (said : Line) (new : Contents) (axis : Axis) (id : BlobId) (bytes : List ℕ) → Acts r log s old deed said new → AllSound r s old

@@ -8,10 +8,10 @@ use Rattle.wal_protocol.proofs.Entered.{writing_present}
 use Rattle.wal_protocol.proofs.Safety.{home_present, kept_home, refuted}
 use Rattle.wal_network.specs.Network.{Network, log_at, comes_with, leaves_with, IsHistory, applied, is_moved, Lands, IsThere, serves, writes}
 use Rattle.wal_network.specs.AsRun.{StandsFor}
-use Rattle.wal_network.specs.Promised.{epoch_in, home_epoch, settled_at, KeepsCertified, CompletesReads, RecoversCommitted, RefutesInvalid, IsSafeNetwork}
+use Rattle.wal_network.specs.Promised.{holds_after, epoch_in, home_epoch, settled_at, KeepsCertified, CompletesReads, RecoversCommitted, RefutesInvalid, IsSafeNetwork}
 use Rattle.wal_network.proofs.Keeping.{each_commits}
-use Rattle.wal_network.proofs.Walk.{flag, bounds, there_of, orderly_at, opens_at, leaves_at, stays_settled}
-use Rattle.wal_network.proofs.Whole.{run_of_world}
+use Rattle.wal_network.proofs.Walk.{flag, bounds, there_of, orderly_at, opens_at, leaves_at, leaves_first, settled_later}
+use Rattle.wal_network.proofs.Whole.{shown_at}
 
 more_than : {f g : ℕ} (p : ℕ → Bool) → f ≡ g → f + 1 ≤ count_below (committee_size f) p → g + 1 ≤ count_below (committee_size g) p
 more_than p same = subst (λ (n : ℕ). n + 1 ≤ count_below (committee_size n) p) same
@@ -81,7 +81,7 @@ module _ (r : Rules) (laws : Laws r) (network : Network) (size : ℕ) (history :
       (comes_sound at e s le there lt correct) has.1 has.2 is
 
   -- a committee of the world that is settled is so in the network
-  settled_there : (at e s f : ℕ) (c : Committee) (id : BlobId) → StandsFor network (leaves_with network at) e f c → s < committee_size f → settled_in c id s ≡ true → settled_at network at e id s ≡ true
+  settled_there : (at e s f : ℕ) (c : Committee) (id : BlobId) → StandsFor network (comes_with network at) e f c → s < committee_size f → settled_in c id s ≡ true → settled_at network at e id s ≡ true
   settled_there at e s f c id stands lt h =
       let both = and_parts (not (among c.faulty s)) (settled (held c s id)) h in
       let bads = ap (λ fs. among fs s) stands.faulty in
@@ -98,11 +98,11 @@ module _ (r : Rules) (laws : Laws r) (network : Network) (size : ℕ) (history :
 
   kept : KeepsCertified network size
   kept at id le few certified =
-      let (w, told, is, leads, shows, facts) = run_of_world r laws network size history at le in
+      let (w, shows, facts) = shown_at r laws network size history at le in
       let side = home_of w.log id in
       let e = home_epoch (log_at network at) id in
-      let stands : StandsFor network (leaves_with network at) e w.log.f (side_of side w) =
-      subst (λ (n : ℕ). StandsFor network (leaves_with network at) n w.log.f (side_of side w)) (epoch_side w side ∙ ap (λ (l : Log). home_epoch l id) shows.log) (shows.sides side (home_present w id)) in
+      let stands : StandsFor network (comes_with network at) e w.log.f (side_of side w) =
+      subst (λ (n : ℕ). StandsFor network (comes_with network at) n w.log.f (side_of side w)) (epoch_side w side ∙ ap (λ (l : Log). home_epoch l id) shows.log) (shows.sides side (home_present w id)) in
       let many = kept_home r w facts (shows.few few) id (subst (λ (l : Log). IsCertified l id) (sym shows.log) certified) in
       let most = count_below-mono (committee_size w.log.f) (settled_in (side_of side w) id) (settled_at network at e id) (λ s lt h. settled_there at e s w.log.f (side_of side w) id stands lt h) in
       let f_is : w.log.f ≡ network.start.f = omega (arith, facts.sized_f, history.sized) in
@@ -130,23 +130,23 @@ module _ (r : Rules) (laws : Laws r) (network : Network) (size : ℕ) (history :
       let both = and_parts (not (among (network.faulty e) s)) _ h in
       let fine = not-true (among (network.faulty e) s) both.0 in
       let one = heard s lt fine in (
-        parts_at (leaves_with network one.at e s) id,
+        parts_at (holds_after network one.at one.count e s) id,
         record {
-          sound = (leaves_at r laws network size history one.at e s one.inside one.there lt fine).sound (comes_sound one.at e s one.inside one.there lt fine) id;
-          settles = stays_settled r laws network size history from one.at e s id one.later one.inside (there_side (log_at network from) (home_of (log_at network from) id)) one.there lt fine (home_outlasts from id le certified) both.1;
+          sound = (leaves_first r laws network size history one.at one.count e s one.inside one.there lt fine).sound (comes_sound one.at e s one.inside one.there lt fine) id;
+          settles = settled_later r laws network size history from one.at one.count e s id one.later one.inside (there_side (log_at network from) (home_of (log_at network from) id)) one.there lt fine (home_outlasts from id le certified) both.1;
           replied = one.said;
         },
       )) read
 
   just : RefutesInvalid r network size
   just at id le few live quorum =
-      let (w, told, is, leads, shows, facts) = run_of_world r laws network size history at le in
+      let (w, shows, facts) = shown_at r laws network size history at le in
       let side = writing_side w in
       let e = writing (log_at network at) in
       let f_is : w.log.f ≡ network.start.f = omega (arith, facts.sized_f, history.sized) in
       let (present, epoch) = writing_present w in
-      let stands : StandsFor network (leaves_with network at) e w.log.f (side_of side w) =
-      subst (λ (n : ℕ). StandsFor network (leaves_with network at) n w.log.f (side_of side w)) (epoch ∙ ap writing shows.log) (shows.sides side present) in
+      let stands : StandsFor network (comes_with network at) e w.log.f (side_of side w) =
+      subst (λ (n : ℕ). StandsFor network (comes_with network at) n w.log.f (side_of side w)) (epoch ∙ ap writing shows.log) (shows.sides side present) in
       let found : HasRefuters r w id =
       refuted r w facts laws id (shows.few few) (ap (λ (l : Log). is_live l id) shows.log ∙ live)
       (omega (arith, quorum, f_is, ap (λ (l : Log). signer_count l id Denies (writing l)) shows.log)) in (

@@ -1,11 +1,12 @@
 -- Along a ledger's prefixes: what stays open, and what is held.
-use Rattle.wal_network.proofs.Common.{◌≡◌, ℕ, zero, suc, ◌≤◌, ◌<◌, ◌+◌, ◌⊎◌, inl, inr, List, true, false, cond, sym, refl, ap, subst, arith, ⊎_elim, ◌∙◌, cases_lt, BlobId, Kind, Log, Body, parts_at, backs, settled, reading, writing, is_live, is_moving, signers, until_of, entered, MustHold, committee_size, among, Rules, Laws, retained, begun, finished, claim_enters, register_enters, ready_enters, Enters, orderly_new, Holds, Denies, Parts, no_parts, empty_map, Bool}
+use Rattle.wal_network.proofs.Common.{◌≡◌, take, ℕ, zero, suc, ◌≤◌, ◌<◌, ◌+◌, ◌⊎◌, inl, inr, List, true, false, cond, sym, refl, ap, subst, arith, ⊎_elim, ◌∙◌, cases_lt, BlobId, Kind, Log, Body, parts_at, backs, settled, reading, writing, is_live, is_moving, signers, until_of, entered, MustHold, committee_size, among, Rules, Laws, retained, begun, finished, claim_enters, register_enters, ready_enters, Enters, orderly_new, Holds, Denies, Parts, no_parts, empty_map, Bool}
 use Rattle.wal_ledger.specs.declared.entry.Entry.{Entry}
 use Rattle.std.proofs.lemmas.Bool.{ne_eqb, lt-ltb, ltb-true}
 use Rattle.wal_ledger.specs.Orderly.{IsOrderly}
 use Rattle.wal_ledger.proofs.HandoverEntries.{owned, until_kept}
 use Rattle.wal_network.specs.Network.{Network, log_at, comes_with, leaves_with, applied, is_moved, Lands, IsHistory, IsThere, serves, writes, Vouched, WasReady, Spares}
-use Rattle.wal_network.proofs.Keeping.{Leaves, each_leaves}
+use Rattle.wal_network.specs.Promised.{holds_after}
+use Rattle.wal_network.proofs.Keeping.{Leaves, each_leaves, acts_first}
 
 pub flag : (b : Bool) → (b ≡ true) ⊎ (b ≡ false)
 flag true = inl refl
@@ -134,11 +135,26 @@ module _ (r : Rules) (laws : Laws r) (network : Network) (size : ℕ) (history :
       ∙ ap (λ t. cond t (parts_at (leaves_with network at e s) id) no_parts) live
   over at e s id b same live = refl
 
-  -- what the deeds of a correct shard leave
+  -- what the first deeds of a correct shard at a prefix leave, and what all of them do
+  pub leaves_first : (at k e s : ℕ) → at ≤ size → IsThere (log_at network at) e → s < committee_size r.f → among (network.faulty e) s ≡ false
+      → Leaves r s (comes_with network at e s) (holds_after network at k e s) (λ id. Spares id (take k (network.deeds at e s)))
+  leaves_first at k e s most there lt correct =
+      each_leaves r laws (log_at network at) s (comes_with network at e s) (take k (network.deeds at e s))
+      (acts_first r laws (log_at network at) s (comes_with network at e s) (network.deeds at e s) k (history.acts at e s most there lt correct))
+
   pub leaves_at : (at e s : ℕ) → at ≤ size → IsThere (log_at network at) e → s < committee_size r.f → among (network.faulty e) s ≡ false
       → Leaves r s (comes_with network at e s) (leaves_with network at e s) (λ id. Spares id (network.deeds at e s))
   leaves_at at e s most there lt correct =
       each_leaves r laws (log_at network at) s (comes_with network at e s) (network.deeds at e s) (history.acts at e s most there lt correct)
+
+  -- an entry leaves what a shard of a committee that stays there holds of a blob that outlasts its epoch
+  onward : (T : Parts → Bool) (at e s : ℕ) (id : BlobId) → at < size → IsThere (log_at network at) e → IsThere (log_at network (suc at)) e → e < until_of (log_at network at) id
+      → T (parts_at (leaves_with network at e s) id) ≡ true → (e < until_of (log_at network (suc at)) id) × (T (parts_at (comes_with network (suc at) e s) id) ≡ true)
+  onward T at e s id before here there outlasts h =
+      let still : e < until_of (log_at network (suc at)) id = omega (arith, outlasts, until_up (log_at network at) (network.body at) id (omega (arith, (bounds (log_at network at) e here).0, outlasts))) in
+      let live : is_live (log_at network (suc at)) id ≡ true =
+      lt-ltb (reading (log_at network (suc at))) (until_of (log_at network (suc at)) id) (omega (arith, still, (bounds (log_at network (suc at)) e there).0)) in
+      (still, ap T (over at e s id (network.body at) (bounds (log_at network at) e here).1 live) ∙ h)
 
   -- what holds of what a shard holds of a blob that outlasts its epoch, and is left by its deeds, holds while its committee is there
   walk : (T : Parts → Bool) (from to e s : ℕ) (id : BlobId) → from ≤ to → to ≤ size → IsThere (log_at network from) e → IsThere (log_at network to) e
@@ -151,12 +167,9 @@ module _ (r : Rules) (laws : Laws r) (network : Network) (size : ℕ) (history :
       step : (at : ℕ) → from ≤ at → at < to → (e < until_of (log_at network at) id) × (T (parts_at (leaves_with network at e s) id) ≡ true)
           → (e < until_of (log_at network (suc at)) id) × (T (parts_at (leaves_with network (suc at) e s) id) ≡ true)
       step at after before h =
-          let here = bounds (log_at network at) e (between from at to e after (omega (arith, before)) most first last) in
           let there = between from (suc at) to e (omega (arith, after)) before most first last in
-          let still : e < until_of (log_at network (suc at)) id = omega (arith, h.0, until_up (log_at network at) (network.body at) id (omega (arith, here.0, h.0))) in
-          let live : is_live (log_at network (suc at)) id ≡ true =
-          lt-ltb (reading (log_at network (suc at))) (until_of (log_at network (suc at)) id) (omega (arith, still, (bounds (log_at network (suc at)) e there).0)) in
-          (still, keep (suc at) (omega (arith, after)) before there (ap T (over at e s id (network.body at) here.1 live) ∙ h.1))
+          let on = onward T at e s id (omega (arith, before, most)) (between from at to e after (omega (arith, before)) most first last) there h.0 h.1 in
+          (on.0, keep (suc at) (omega (arith, after)) before there on.1)
 
   -- WHAT SETTLED STILL SETTLES while the committee is there, if the blob outlasts its epoch
   pub stays_settled : (from to e s : ℕ) (id : BlobId) → from ≤ to → to ≤ size → IsThere (log_at network from) e → IsThere (log_at network to) e
@@ -165,6 +178,21 @@ module _ (r : Rules) (laws : Laws r) (network : Network) (size : ℕ) (history :
   stays_settled from to e s id le most first last lt correct outlasts holds =
       walk settled from to e s id le most first last outlasts holds
       (λ at after before there h. ((leaves_at at e s (omega (arith, before, most)) there lt correct).firmer id).settles h)
+
+  -- from as soon as a prefix was applied to any later moment
+  pub settled_later : (from to k e s : ℕ) (id : BlobId) → from ≤ to → to ≤ size → IsThere (log_at network from) e → IsThere (log_at network to) e
+      → s < committee_size r.f → among (network.faulty e) s ≡ false → e < until_of (log_at network from) id
+      → settled (parts_at (comes_with network from e s) id) ≡ true → settled (parts_at (holds_after network to k e s) id) ≡ true
+  settled_later from to k e s id le most first last lt correct outlasts holds =
+      ((leaves_first to k e s most last lt correct).firmer id).settles (by to le most last)
+    where
+      by : (to : ℕ) → from ≤ to → to ≤ size → IsThere (log_at network to) e → settled (parts_at (comes_with network to e s) id) ≡ true
+      by to le most last =
+          (along (λ at. (e < until_of (log_at network at) id) × (settled (parts_at (comes_with network at e s) id) ≡ true)) from to (outlasts, holds)
+          (λ at after before h.
+          let there = between from at to e after (omega (arith, before)) most first last in
+          onward settled at e s id (omega (arith, before, most)) there (between from (suc at) to e (omega (arith, after)) before most first last) h.0
+          (((leaves_at at e s (omega (arith, before, most)) there lt correct).firmer id).settles h.1)) to le (omega arith)).1
 
   -- THE CLAIM IS STILL BACKED where it lands
   pub still_backed : (to s : ℕ) (kind : Kind) (id : BlobId) → to ≤ size → s < committee_size r.f → among (network.faulty (writing (log_at network to))) s ≡ false

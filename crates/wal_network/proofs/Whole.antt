@@ -65,6 +65,10 @@ module _ (r : Rules) (laws : Laws r) (network : Network) (size : ℕ) (history :
       let all : Told = prefix_told network at told in
       (one.new, all ++ (event, one.said) ∷ [], (all, one.said, all_told at told was, refl), leads_on r laws (first_of network) mid one.new all event one.said way_mid one.step one.goes_on (fits at mid shown (network.body at) (history.lands at (omega (arith, le)))), one.shows)
 
+  -- as soon as a prefix was applied
+  pub shown_at : (at : ℕ) → at ≤ size → (w : World) × IsShownBy network at (comes_with network at) w × Facts r w
+  shown_at at le = let (w, told, was, way, shows) = comes at le in (w, shows, way.facts first_facts)
+
   pub run_of_world : IsRunOfWorld r network size
   run_of_world at le =
       let (before, told, was, way, shows) = comes at le in

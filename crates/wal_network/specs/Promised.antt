@@ -1,6 +1,6 @@
 -- What is promised of every history of a network, in the network's own words.
 use Rattle.std.specs.Prelude.{◌≡◌, ◌≢◌, ℕ, ◌+◌, ◌<◌, ◌≤◌, Bool, true, false, not, ◌&&◌}
-use Rattle.std.specs.Prelude.{List, [], length, Option, Some, All, Contains}
+use Rattle.std.specs.Prelude.{List, [], length, take, Option, Some, All, Contains}
 use Rattle.wal_shape.specs.declared.metadata.BlobId.{BlobId}
 use Rattle.wal_shape.specs.declared.axis.Axis.{Axis}
 use Rattle.wal_shape.specs.declared.axis.Side.{Side}
@@ -19,13 +19,13 @@ use Rattle.wal_ledger.specs.declared.entry.Kind.TheVariants.{Denies}
 use Rattle.wal_ledger.specs.Shards.{committee_size, quorum_size, count_below}
 use Rattle.wal_ledger.specs.Ledger.{Log, reading, writing, is_live, IsCertified, home_of}
 use Rattle.wal_ledger.specs.Ledger.{signer_count}
-use Rattle.wal_store.specs.Contents.{parts_at}
+use Rattle.wal_store.specs.Contents.{Contents, parts_at}
 use Rattle.wal_shard.specs.Holding.{settled}
 use Rattle.wal_protocol.specs.Rules.{Rules}
 use Rattle.wal_protocol.specs.Step.{told_by}
 use Rattle.wal_protocol.specs.Total.{Possible, AreBytes}
-use Rattle.wal_network.specs.Deeds.{Done}
-use Rattle.wal_network.specs.Network.{Network, log_at, leaves_with, IsThere, IsHistory}
+use Rattle.wal_network.specs.Deeds.{Done, last_held}
+use Rattle.wal_network.specs.Network.{Network, log_at, comes_with, IsThere, IsHistory}
 use Rattle.wal_network.specs.AsRun.{HasFew}
 
 -- the epoch of the committee of a side
@@ -37,14 +37,21 @@ epoch_in log Next = writing log
 abbrev pub home_epoch : Log → BlobId → ℕ
 home_epoch log id = epoch_in log (home_of log id)
 
--- the correct shards of an epoch's committee that are settled for a blob at a prefix, as a set
+-- what a shard holds at a prefix, once it has done so many of its deeds there
+abbrev pub holds_after : Network → ℕ → ℕ → ℕ → ℕ → Contents
+holds_after network at count epoch shard =
+    last_held (take count (network.deeds at epoch shard)) (comes_with network at epoch shard)
+
+-- the correct shards of an epoch's committee that are settled for a blob as soon as they have
+-- applied a prefix, as a set
 abbrev pub settled_at : Network → ℕ → ℕ → BlobId → (ℕ → Bool)
 settled_at network at epoch id shard =
     not (among (network.faulty epoch) shard)
-    && settled (parts_at (leaves_with network at epoch shard) id)
+    && settled (parts_at (comes_with network at epoch shard) id)
 
 -- KEPT: while each committee so far has had at most f faulty shards, more than f correct shards of
--- the committee that answers for a certified blob are settled for it
+-- the committee that answers for a certified blob are settled for it, as soon as they have applied
+-- the prefix at which it is certified, and so later there
 abbrev pub KeepsCertified : Network → ℕ → Type 0
 KeepsCertified network size =
     (at : ℕ) (id : BlobId) → at ≤ size → HasFew network at → IsCertified (log_at network at) id
@@ -52,17 +59,18 @@ KeepsCertified network size =
     ≤ count_below (committee_size network.start.f)
     (settled_at network at (home_epoch (log_at network at) id) id)
 
--- the true reply of a shard of a committee was heard: it is of what the shard held at a prefix of
--- its own, not before `from`, while its committee was there
+-- the true reply of a shard of a committee was heard: it is of what the shard held at some moment at
+-- a prefix of its own, not before `from`, while its committee was there
 pub record IsHeardOf (rules : Rules) (network : Network) (size from epoch : ℕ) (id : BlobId)
     (payloads : List (List ℕ)) (shard : ℕ) : Type 0 where
   pub at : ℕ
+  pub count : ℕ
   pub later : from ≤ at
   pub inside : at ≤ size
   pub there : IsThere (log_at network at) epoch
   pub said : (payload : List ℕ)
-      → Contains (rules.read_reply id shard (parts_at (leaves_with network at epoch shard) id))
-      payload
+      → Contains
+      (rules.read_reply id shard (parts_at (holds_after network at count epoch shard) id)) payload
       → Contains payloads payload
 
 -- COMPLETE: while each committee up to a prefix has had at most f faulty shards, a read of a blob
@@ -91,7 +99,8 @@ RecoversCommitted rules network size =
     → rules.CommitsTo id shard axis bytes (parts_at done.after id)
 
 -- JUST: while each committee so far has had at most f faulty shards, more than f correct shards of
--- the committee that writes refute a live blob that a quorum of it attested
+-- the committee that writes refute a live blob that a quorum of it attested, as soon as they have
+-- applied the prefix at which it is invalid
 abbrev pub RefutesInvalid : Rules → Network → ℕ → Type 0
 RefutesInvalid rules network size =
     (at : ℕ) (id : BlobId) → at ≤ size → HasFew network at → is_live (log_at network at) id ≡ true
@@ -102,7 +111,7 @@ RefutesInvalid rules network size =
     × ((shard : ℕ) → shard < committee_size network.start.f → refuters shard ≡ true
     → (among (network.faulty (writing (log_at network at))) shard ≡ false)
     × rules.Refutes id
-    (parts_at (leaves_with network at (writing (log_at network at)) shard) id))
+    (parts_at (comes_with network at (writing (log_at network at)) shard) id))
 
 -- THE SAFE NETWORK
 pub record IsSafeNetwork (rules : Rules) (network : Network) (size : ℕ) : Type 0 where
