@@ -214,7 +214,7 @@ module _ (digest : List ℕ → List ℕ) (size_is : (text : List ℕ) → lengt
       one_epoch = refl;
       was_open = is_open;
       held = has_all other;
-      spared = λ at after before. absurd (omega (arith, after, before));
+      spared = λ holds at after before. absurd (omega (arith, after, before));
     };
   }
 

@@ -1,5 +1,5 @@
 -- What deeds leave of what is held.
-use Rattle.wal_network.proofs.Common.{◌≢◌, ◌≡◌, ℕ, zero, suc, ◌<◌, List, [], ◌∷◌, take, length, get_or, true, is_some, sym, refl, ap, subst, arith, ⊎_elim, ◌∙◌, Axis, BlobId, Kind, Holds, Denies, Log, Contents, parts_at, Parts, part_of, Metadata, Primary, Secondary, Proof, has_proof, backs, PutAnswer, Rules, Laws, IsAbove, AreAbove, AllSound, Line}
+use Rattle.wal_network.proofs.Common.{◌≢◌, ◌≡◌, ℕ, zero, suc, ◌<◌, List, [], ◌∷◌, take, length, get_or, true, is_some, sym, refl, ap, subst, arith, ⊎_elim, ◌∙◌, Axis, BlobId, Log, Contents, parts_at, Parts, part_of, Metadata, Primary, Secondary, has_proof, settled_by_slivers, PutAnswer, Rules, Laws, IsAbove, AreAbove, AllSound, Line}
 use Rattle.wal_shape.specs.declared.part.Part.{Part}
 use Rattle.wal_event.specs.declared.line.Line.TheVariants as line
 use Rattle.wal_event.specs.declared.line.RecoverWord.TheVariants as recovering
@@ -10,20 +10,15 @@ use Rattle.wal_network.specs.Network.{Spares}
 some_kept : (old new : Parts) (p : Part) → IsAbove old new → is_some (part_of old p) ≡ true → is_some (part_of new p) ≡ true
 some_kept old new p above h = grind (arith, above p)
 
--- a holding above another one backs what that one backs
-backs_above : (kind : Kind) (old new : Parts) → IsAbove old new → backs kind old ≡ true → backs kind new ≡ true
-backs_above Holds old new above = grind (arith, some_kept old new Metadata above, some_kept old new Primary above, some_kept old new Secondary above)
-backs_above Denies old new above = grind (arith, some_kept old new Metadata above, some_kept old new Proof above)
-
--- what is left: what backs a claim of a blob that is spared, what is settled, proofs, and soundness
+-- what is left: both slivers of a blob that is spared, what is settled, proofs, and soundness
 pub record Leaves (r : Rules) (s : ℕ) (old new : Contents) (Spared : BlobId → Type 0) : Type 0 where
-  pub backs_still : (kind : Kind) (id : BlobId) → Spared id → backs kind (parts_at old id) ≡ true → backs kind (parts_at new id) ≡ true
+  pub holds_still : (id : BlobId) → Spared id → settled_by_slivers (parts_at old id) ≡ true → settled_by_slivers (parts_at new id) ≡ true
   pub firmer : (id : BlobId) → Firmer (parts_at old id) (parts_at new id)
   pub sound : AllSound r s old → AllSound r s new
 
 more_leaves : (r : Rules) (s : ℕ) (old new : Contents) (Spared : BlobId → Type 0) → AreAbove old new → (AllSound r s old → AllSound r s new) → Leaves r s old new Spared
 more_leaves r s old new Spared above sound = record {
-  backs_still = λ kind id spared. backs_above kind (parts_at old id) (parts_at new id) (above id);
+  holds_still = λ id spared h. grind (arith, some_kept (parts_at old id) (parts_at new id) Metadata (above id), some_kept (parts_at old id) (parts_at new id) Primary (above id), some_kept (parts_at old id) (parts_at new id) Secondary (above id));
   firmer = λ id. firmer_above (parts_at old id) (parts_at new id) (above id);
   sound = sound;
 }
@@ -35,22 +30,22 @@ module _ (r : Rules) (laws : Laws r) (log : Log) (s : ℕ) where
   act_leaves old _ _ new (found axis i heard word _ run keeps) =
       more_leaves r s old new _ (laws.recover_adds i s axis old new heard word run.recovers) (laws.recover_sound i s axis old new heard word run.recovers run.one_metadata)
   act_leaves old _ _ _ (forgot i may) = record {
-    backs_still = λ kind id other h. ⊎_elim (λ same. ap (backs kind) same ∙ h) (λ is. absurd (other (ap forget (sym is.0)))) (parts_forgotten old i id);
+    holds_still = λ id other h. ⊎_elim (λ same. ap settled_by_slivers same ∙ h) (λ is. absurd (other (ap forget (sym is.0)))) (parts_forgotten old i id);
     firmer = λ id. ⊎_elim (λ same. firmer_same _ _ same)
         (λ is. subst (Firmer (parts_at old id)) (sym is.1) (firmer_forgotten (parts_at old id) (ap (λ (q : BlobId). has_proof (parts_at old q)) is.0 ∙ may.proof)))
         (parts_forgotten old i id);
     sound = λ sound q. ⊎_elim (λ same. subst (r.IsSound q s) (sym same) (sound q)) (λ is. subst (r.IsSound q s) (sym is.1) (laws.forget_sound q s (parts_at old q) (sound q)))
         (parts_forgotten old i q);
   }
-  act_leaves old deed said new act = record { backs_still = λ kind id spared h. h; firmer = λ id. firmer_same _ _ refl; sound = λ h. h }
+  act_leaves old deed said new act = record { holds_still = λ id spared h. h; firmer = λ id. firmer_same _ _ refl; sound = λ h. h }
 
   pub each_leaves : (old : Contents) (dones : List Done) → ActsEach r log s old dones → Leaves r s old (last_held dones old) (λ id. Spares id dones)
-  each_leaves old [] acts = record { backs_still = λ kind id spared h. h; firmer = λ id. firmer_same _ _ refl; sound = λ h. h }
+  each_leaves old [] acts = record { holds_still = λ id spared h. h; firmer = λ id. firmer_same _ _ refl; sound = λ h. h }
   each_leaves old (done ∷ more) acts =
       let one = act_leaves old done.deed done.said done.after acts.0 in
       let rest = each_leaves done.after more acts.1 in
       record {
-        backs_still = λ kind id spared h. rest.backs_still kind id spared.1 (one.backs_still kind id spared.0 h);
+        holds_still = λ id spared h. rest.holds_still id spared.1 (one.holds_still id spared.0 h);
         firmer = λ id. record { settles = λ h. (rest.firmer id).settles ((one.firmer id).settles h); by_proof = λ h. (rest.firmer id).by_proof ((one.firmer id).by_proof h) };
         sound = λ h. rest.sound (one.sound h);
       }

@@ -1,5 +1,5 @@
 -- Along a ledger's prefixes: what stays open, and what is held.
-use Rattle.wal_network.proofs.Common.{◌≡◌, take, ℕ, zero, suc, ◌≤◌, ◌<◌, ◌+◌, ◌⊎◌, inl, inr, List, true, false, cond, sym, refl, ap, subst, arith, ⊎_elim, ◌∙◌, cases_lt, BlobId, Kind, Log, Body, parts_at, backs, settled, reading, writing, is_live, is_moving, signers, until_of, entered, MustHold, committee_size, among, Rules, Laws, retained, begun, finished, claim_enters, register_enters, ready_enters, Enters, orderly_new, Holds, Denies, Parts, no_parts, empty_map, Bool}
+use Rattle.wal_network.proofs.Common.{◌≡◌, take, ℕ, zero, suc, ◌≤◌, ◌<◌, ◌+◌, ◌⊎◌, inl, inr, List, true, false, cond, sym, refl, ap, subst, arith, ⊎_elim, ◌∙◌, cases_lt, BlobId, Kind, Log, Body, Contents, parts_at, backs, settled, reading, writing, is_live, is_moving, signers, until_of, entered, MustHold, committee_size, among, Rules, Laws, retained, begun, finished, claim_enters, register_enters, ready_enters, Enters, orderly_new, Holds, Denies, Parts, no_parts, empty_map, Bool}
 use Rattle.wal_ledger.specs.declared.entry.Entry.{Entry}
 use Rattle.std.proofs.lemmas.Bool.{ne_eqb, lt-ltb, ltb-true}
 use Rattle.wal_ledger.specs.Orderly.{IsOrderly}
@@ -90,6 +90,12 @@ there_of log e low high =
     omega_flag : (b : Bool) → cond b 1 0 ≤ 1
     omega_flag true = omega arith
     omega_flag false = omega arith
+
+-- a proof is never let go, and slivers are kept of what is spared
+claim_kept : {r : Rules} {s : ℕ} (kind : Kind) (id : BlobId) (old new : Contents) (Spared : BlobId → Type 0) → Leaves r s old new Spared → (kind ≡ Holds → Spared id)
+    → backs kind (parts_at old id) ≡ true → backs kind (parts_at new id) ≡ true
+claim_kept Holds id old new Spared leaves spared = leaves.holds_still id (spared refl)
+claim_kept Denies id old new Spared leaves spared = (leaves.firmer id).by_proof
 
 module _ (r : Rules) (laws : Laws r) (network : Network) (size : ℕ) (history : IsHistory r network size) where
   pub orderly_at : (at : ℕ) → at ≤ size → IsOrderly (log_at network at)
@@ -200,7 +206,7 @@ module _ (r : Rules) (laws : Laws r) (network : Network) (size : ℕ) (history :
   still_backed to s kind id most lt correct v =
       walk (backs kind) v.from to (writing (log_at network to)) s id v.earlier most (subst (IsThere (log_at network v.from)) v.one_epoch writes) writes
       (omega (arith, v.one_epoch, v.was_open.outlasts)) v.held
-      (λ at after before there h. (leaves_at at _ s (omega (arith, before, most)) there lt correct).backs_still kind id (v.spared at after before) h)
+      (λ at after before there. claim_kept kind id _ _ _ (leaves_at at _ s (omega (arith, before, most)) there lt correct) (λ holds. v.spared holds at after before))
 
   -- what must be held where readiness lands had to be held before, in the same writing epoch
   musts_before : (from to : ℕ) (id : BlobId) → from ≤ to → to ≤ size → writing (log_at network from) ≡ writing (log_at network to)

@@ -82,7 +82,8 @@ Spares id [] = Unit {0}
 Spares id (done ∷ more) = (done.deed ≢ forget id) × Spares id more
 
 -- A CLAIM THAT LANDS is backed by a shard: at an earlier or equal prefix of the same writing epoch
--- the blob was open and the shard held what backs the claim, and it has not forgotten the blob since
+-- the blob was open and the shard held what backs the claim; and if the claim is that it holds the
+-- blob, it has not forgotten it since
 pub record Vouched (network : Network) (to : ℕ) (kind : Kind) (id : BlobId) (shard : ℕ)
     : Type 0 where
   pub from : ℕ
@@ -91,7 +92,7 @@ pub record Vouched (network : Network) (to : ℕ) (kind : Kind) (id : BlobId) (s
   pub was_open : IsOpen (log_at network from) id
   pub held : backs kind
       (parts_at (leaves_with network from (writing (log_at network to)) shard) id) ≡ true
-  pub spared : (at : ℕ) → from < at → at ≤ to
+  pub spared : kind ≡ Holds → (at : ℕ) → from < at → at ≤ to
       → Spares id (network.deeds at (writing (log_at network to)) shard)
 
 -- READINESS THAT LANDS is backed by a shard: at an earlier or equal prefix of the same change of
