@@ -1,5 +1,6 @@
 -- One entry that lands, as a step of the world.
-use Rattle.wal_network.proofs.Common.{◌≡◌, ℕ, zero, suc, ◌≤◌, ◌<◌, ◌+◌, List, [], ◌∷◌, length, map, get_or, Bool, true, false, cond, not, ◌&&◌, nat_le, sym, refl, ap, subst, arith, ⊎_elim, ◌∙◌, cases_lt, and_from, and_parts, not-true, BlobId, Side, Now, Next, Line, Log, Body, Kind, Holds, Denies, Contents, parts_at, backs, settled, Committee, World, side_of, is_present, contents_of, epoch_of, writing_side, held, Rules, Laws, Steps, is_collision, among, committee_size, quorum_size, reading, writing, is_moving, entered, MayPost, ClaimStep, claim_of, signer_count, ready_total, until_of, same_node, owners_of, empty_map, is_carried_over, next_committee, after_dropping, without_dead, begun, finished, nobody, get_or-map-range_with_len, length-map-range_with_len, length-map, MayBeReady, true≢false, MayClaim, ready_shards, MustHold, AckWord, AttestWord, RegisterWord, BeginWord, ReadyWord, FinishWord}
+use Rattle.wal_network.proofs.Common.{◌≡◌, ℕ, suc, ◌≤◌, ◌<◌, ◌+◌, List, length, Bool, true, false, cond, not, ◌&&◌, nat_le, sym, refl, ap, subst, arith, ⊎_elim, ◌∙◌, cases_lt, and_from, and_parts, not-true, BlobId, Side, Now, Next, Line, Log, Body, Kind, Holds, Denies, Contents, parts_at, backs, settled, Committee, World, side_of, is_present, contents_of, epoch_of, writing_side, held, Rules, Laws, Steps, is_collision, among, committee_size, quorum_size, reading, writing, is_moving, entered, MayPost, ClaimStep, claim_of, signer_count, ready_total, until_of, same_node, owners_of, empty_map, is_carried_over, next_committee, after_dropping, without_dead, begun, finished, nobody, get_or-map-range_with_len, length-map-range_with_len, length-map, MayBeReady, true≢false, MayClaim, ready_shards, MustHold, AckWord, AttestWord, RegisterWord, BeginWord, ReadyWord, FinishWord}
+use Rattle.std.proofs.lemmas.List.{get_or-map}
 use Rattle.std.proofs.lemmas.Bool.{ne_eqb, eq-eqb, le-leb}
 use Rattle.wal_event.specs.declared.line.Line.TheVariants as line
 use Rattle.wal_protocol.proofs.Lookups.{held_is}
@@ -50,11 +51,6 @@ finish_sides : {network : Network} (w : World) (holds : ℕ → ℕ → Contents
     → StandsFor network holds (epoch_of side (finished_world w)) w.log.f (side_of side (finished_world w))
 finish_sides w holds stands serving Now present = stands
 finish_sides w holds stands serving Next present = absurd (true≢false (sym present ∙ serving))
-
-at_mapped : (f : Contents → Contents) (xs : List Contents) (k : ℕ) → k < length xs → get_or (map f xs) k empty_map ≡ f (get_or xs k empty_map)
-at_mapped f [] k lt = absurd (omega (arith, lt))
-at_mapped f (x ∷ xs) zero lt = refl
-at_mapped f (x ∷ xs) (suc k) lt = at_mapped f xs k (omega (arith, lt))
 
 -- another shard of a correct shard's node: it is correct, and this holds of it
 record IsOfNode (r : Rules) (network : Network) (at : ℕ) (c : Committee) (P : ℕ → Type 0) (other : ℕ) : Type 0 where
@@ -234,7 +230,7 @@ module _ (r : Rules) (laws : Laws r) (network : Network) (size : ℕ) (history :
               sized = length-map w.next.shards (without_dead (entered w.log Body.Finish)) ∙ stands.sized;
               faulty = stands.faulty;
               contents = λ s lt_s fine.
-                  at_mapped (without_dead (entered w.log Body.Finish)) w.next.shards s (omega (arith, lt_s, stands.sized))
+                  get_or-map (without_dead (entered w.log Body.Finish)) w.next.shards s empty_map empty_map (omega (arith, lt_s, stands.sized))
                   ∙ ap (without_dead (entered w.log Body.Finish)) (stands.contents s lt_s fine)
                   ∙ ap (λ (l : Log). without_dead l (leaves_with network at (writing w.log) s)) log_is;
             })) turns.serves);

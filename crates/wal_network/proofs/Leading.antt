@@ -1,10 +1,10 @@
 -- What shards do at one prefix, as a run of the world.
-use Rattle.wal_network.proofs.Common.{◌≡◌, ◌≢◌, ℕ, ◌<◌, List, [], ◌∷◌, ◌++◌, length, map, true, false, sym, refl, ap, subst, arith, ◌∙◌, BlobId, Side, Now, Next, Axis, Line, Event, Log, Contents, Committee, World, side_of, with_side, is_present, is_correct, contents_of, with_contents, keeps, Rules, Steps, Runs, GoesOn, is_collision, AreReplies, RecoveryRuns, among, empty_map, get_or-set_same, get_or-set_other, length-set}
-use Rattle.std.proofs.lemmas.List.{set-get_or}
+use Rattle.wal_network.proofs.Common.{◌≡◌, ◌≢◌, ℕ, ◌<◌, List, [], ◌∷◌, ◌++◌, length, map, true, false, sym, refl, ap, subst, arith, ◌∙◌, BlobId, Side, Now, Next, Axis, Line, Event, Log, Contents, Committee, World, side_of, with_side, is_present, is_correct, contents_of, with_contents, keeps, Rules, Steps, Runs, GoesOn, is_collision, AreReplies, RecoveryRuns, among, empty_map, get_or-set_same, get_or-set_other}
+use Rattle.std.proofs.lemmas.List.{set-get_or, map-append}
 use Rattle.wal_event.specs.declared.event.Reply.TheVariants as reply
 use Rattle.wal_protocol.proofs.Agreement.{last}
 use Rattle.wal_protocol.proofs.RunLaws.{goes_on_push, last_push, runs_push}
-use Rattle.wal_protocol.proofs.Lookups.{held_is}
+use Rattle.wal_protocol.proofs.Lookups.{held_is, changed_shape}
 use Rattle.wal_network.proofs.Common.{Laws, Facts, IsEventWithin, AllByRecursion, committee_size, length-map}
 use Rattle.wal_event.specs.Event.{IsReply}
 use Rattle.wal_protocol.proofs.Stepped.{facts_step}
@@ -18,10 +18,6 @@ last_is : (old : World) (states : List World) → last old states ≡ last_world
 last_is old [] = refl
 last_is old (new ∷ more) = last_is new more
 
-map_push : {A B : Type 0} (f : A → B) (xs : List A) (x : A) → map f (xs ++ x ∷ []) ≡ map f xs ++ f x ∷ []
-map_push f [] x = refl
-map_push f (y ∷ xs) x = ap (λ l. f y ∷ l) (map_push f xs x)
-
 pub leads_none : (r : Rules) (old : World) → LeadsTo r old [] old
 leads_none r old = record { states = []; run = tt; goes_on = tt; ends = refl }
 
@@ -30,11 +26,11 @@ pub leads_more : (r : Rules) (old mid new : World) (told : Told) (event : Event)
 leads_more r old mid new told event said way step none = record {
   states = way.states ++ new ∷ [];
   run = subst (λ (es : List Event). Runs r old es (way.states ++ new ∷ []) (map (λ (one : Event × Line). one.1) (told ++ (event, said) ∷ [])))
-      (sym (map_push (λ (one : Event × Line). one.0) told (event, said)))
-      (subst (Runs r old (map (λ (one : Event × Line). one.0) told ++ event ∷ []) (way.states ++ new ∷ [])) (sym (map_push (λ (one : Event × Line). one.1) told (event, said)))
+      (sym (map-append (λ (one : Event × Line). one.0) told ((event, said) ∷ [])))
+      (subst (Runs r old (map (λ (one : Event × Line). one.0) told ++ event ∷ []) (way.states ++ new ∷ [])) (sym (map-append (λ (one : Event × Line). one.1) told ((event, said) ∷ [])))
       (runs_push r old (map (λ (one : Event × Line). one.0) told) way.states (map (λ (one : Event × Line). one.1) told) event said new way.run way.goes_on
       (subst (λ (w : World). Steps r w event said new) (sym (last_is old way.states ∙ way.ends)) step)));
-  goes_on = subst GoesOn (sym (map_push (λ (one : Event × Line). one.1) told (event, said))) (goes_on_push (map (λ (one : Event × Line). one.1) told) said way.goes_on none);
+  goes_on = subst GoesOn (sym (map-append (λ (one : Event × Line). one.1) told ((event, said) ∷ []))) (goes_on_push (map (λ (one : Event × Line). one.1) told) said way.goes_on none);
   ends = sym (last_is old (way.states ++ new ∷ [])) ∙ last_push old way.states new;
 }
 
@@ -107,21 +103,11 @@ deed_goes_on r log s old deed said new act = refl
 
 -- ---- the deeds of one shard, and of all shards of a side
 
-with_twice : (w : World) (side : Side) (a b : Committee) → with_side side (with_side side w a) b ≡ with_side side w b
-with_twice w Now a b = refl
-with_twice w Next a b = refl
-
-side_with : (w : World) (side : Side) (c : Committee) → side_of side (with_side side w c) ≡ c
-side_with w Now c = refl
-side_with w Next c = refl
-
-log_with : (w : World) (side : Side) (c : Committee) → (with_side side w c).log ≡ w.log
-log_with w Now c = refl
-log_with w Next c = refl
-
-present_with : (w : World) (side : Side) (c : Committee) → is_present side (with_side side w c) ≡ is_present side w
-present_with w Now c = refl
-present_with w Next c = refl
+-- a world with a committee on a side
+with_is : (w : World) (side : Side) (c : Committee) → ((with_side side w c).log ≡ w.log) × (is_present side (with_side side w c) ≡ is_present side w) × (side_of side (with_side side w c) ≡ c)
+    × ((d : Committee) → with_side side (with_side side w c) d ≡ with_side side w d)
+with_is w Now c = (refl, refl, refl, λ d. refl)
+with_is w Next c = (refl, refl, refl, λ d. refl)
 
 contents_same : (c : Committee) (s : ℕ) (m : Contents) → s < length c.shards → contents_of (with_contents c s m) s ≡ m
 unfolding with_contents
@@ -130,10 +116,6 @@ contents_same c s m lt = get_or-set_same c.shards s m empty_map lt
 contents_other : (c : Committee) (s t : ℕ) (m : Contents) → t ≢ s → contents_of (with_contents c s m) t ≡ contents_of c t
 unfolding with_contents
 contents_other c s t m other = get_or-set_other c.shards s t m empty_map other
-
-shape_same : (c : Committee) (s : ℕ) (m : Contents) → ((with_contents c s m).faulty ≡ c.faulty) × (length (with_contents c s m).shards ≡ length c.shards)
-unfolding with_contents
-shape_same c s m = (refl, length-set c.shards s m)
 
 -- a committee in which one shard holds something else
 pub record Changed (old new : Committee) (s : ℕ) (contents : Contents) : Type 0 where
@@ -149,18 +131,19 @@ pub shard_leads : (r : Rules) (laws : Laws r) (first w : World) (side : Side) (s
 shard_leads r laws first w side s [] c told way present correct lt sized acts = (c, way, record { faulty = refl; size = refl; here = refl; others = λ t other. refl })
 shard_leads r laws first w side s (done ∷ more) c told way present correct lt sized acts =
     let at : World = with_side side w c in
-    let ok : is_correct side at s ≡ true = rw (present_with, side_with, present, correct) refl in
-    let act : Acts r at.log s (contents_of (side_of side at) s) done.deed done.said done.after = rw (log_with, side_with) acts.0 in
+    let (same_log, same_present, same_side, twice) = with_is w side c in
+    let ok : is_correct side at s ≡ true = rw (same_present, same_side, present, correct) refl in
+    let act : Acts r at.log s (contents_of (side_of side at) s) done.deed done.said done.after = rw (same_log, same_side) acts.0 in
     let mid : Committee = with_contents c s done.after in
     let step : Steps r at (deed_event side s done.deed) done.said (keeps at side s done.after) = deed_step r at side s done.deed done.said done.after ok act in
     let is : keeps at side s done.after ≡ with_side side w mid =
-    with_twice w side c (with_contents (side_of side at) s done.after) ∙ ap (λ (d : Committee). with_side side w (with_contents d s done.after)) (side_with w side c) in
+    twice (with_contents (side_of side at) s done.after) ∙ ap (λ (d : Committee). with_side side w (with_contents d s done.after)) same_side in
     let on : Way r first (told ++ (deed_event side s done.deed, done.said) ∷ []) (with_side side w mid) =
     leads_on r laws first at (with_side side w mid) told (deed_event side s done.deed) done.said way
     (subst (Steps r at (deed_event side s done.deed) done.said) is step) (deed_goes_on r w.log s (contents_of c s) done.deed done.said done.after acts.0)
-    (deed_fits (committee_size at.log.f) s side done.deed (subst (λ (l : Log). s < committee_size l.f) (sym (log_with w side c)) (omega (arith, lt, sized))) acts.2) in
+    (deed_fits (committee_size at.log.f) s side done.deed (subst (λ (l : Log). s < committee_size l.f) (sym same_log) (omega (arith, lt, sized))) acts.2) in
     let here : contents_of mid s ≡ done.after = contents_same c s done.after lt in
-    let shape = shape_same c s done.after in
+    let shape = changed_shape c s done.after in
     let rest = shard_leads r laws first w side s more mid (told ++ (deed_event side s done.deed, done.said) ∷ []) on present (ap (λ fs. among fs s) shape.0 ∙ correct) (omega (arith, lt, shape.1)) (shape.1 ∙ sized)
     (subst (λ (m : Contents). ActsEach r w.log s m more) (sym here) acts.1) in (
       rest.0,

@@ -2,8 +2,8 @@
 use Rattle.wal_network.proofs.Common.{◌≡◌, ℕ, zero, suc, ◌≤◌, ◌<◌, length, true, false, cond, sym, refl, ap, subst, arith, ⊎_elim, ◌⊎◌, inl, inr, ◌∙◌, cases_lt, Side, Now, Next, Log, Contents, Committee, World, side_of, with_side, is_present, contents_of, epoch_of, Rules, Laws, among, committee_size, reading, writing, is_moving, true≢false}
 use Rattle.wal_network.specs.Network.{Network, log_at, comes_with, leaves_with, IsHistory, IsThere, writes, serves}
 use Rattle.wal_network.specs.Deeds.{last_held, ActsEach}
-use Rattle.wal_network.specs.AsRun.{Told, deeds_told, side_told, prefix_told, StandsFor, IsShownBy}
-use Rattle.wal_network.proofs.Leading.{Way, shard_leads}
+use Rattle.wal_network.specs.AsRun.{Told, side_told, prefix_told, StandsFor, IsShownBy}
+use Rattle.wal_network.proofs.Leading.{Way, Changed, shard_leads}
 use Rattle.wal_network.proofs.Walk.{f_at, flag}
 
 -- a committee of which the shards below k did all that they do at this prefix
@@ -13,6 +13,17 @@ record Half (network : Network) (at e : ℕ) (old new : Committee) (k : ℕ) : T
   pub did : (s : ℕ) → s < k → s < length old.shards → among old.faulty s ≡ false → contents_of new s ≡ leaves_with network at e s
   pub left : (s : ℕ) → k ≤ s → contents_of new s ≡ contents_of old s
 
+half_more : (network : Network) (at e k : ℕ) (old new then : Committee) (m : Contents) → Half network at e old new k → Changed new then k m → (among old.faulty k ≡ false → m ≡ leaves_with network at e k) → Half network at e old then (suc k)
+half_more network at e k old new then m half changed did = record {
+  faulty = changed.faulty ∙ half.faulty;
+  size = changed.size ∙ half.size;
+  did = λ s lt inside correct.
+      ⊎_elim (λ before. changed.others s (λ same. omega (arith, same, before)) ∙ half.did s before inside correct)
+      (λ past. let same : s ≡ k = omega (arith, lt, past) in rw same (changed.here ∙ did (rw same at correct)))
+      (cases_lt s k);
+  left = λ s past. changed.others s (λ same. omega (arith, same, past)) ∙ half.left s (omega (arith, past));
+}
+
 half_leads : (r : Rules) (laws : Laws r) (first w : World) (side : Side) (network : Network) (at e : ℕ) (c : Committee) (told : Told) → Way r first told (with_side side w c) → c.faulty ≡ network.faulty e → length c.shards ≡ committee_size w.log.f → is_present side w ≡ true
     → ((s : ℕ) → s < length c.shards → among c.faulty s ≡ false
     → (contents_of c s ≡ comes_with network at e s) × ActsEach r w.log s (comes_with network at e s) (network.deeds at e s))
@@ -20,40 +31,20 @@ half_leads : (r : Rules) (laws : Laws r) (first w : World) (side : Side) (networ
 half_leads r laws first w side network at e c told way bads sized present does zero le =
     (c, way, record { faulty = refl; size = refl; did = λ s lt inside correct. absurd (omega (arith, lt)); left = λ s past. refl })
 half_leads r laws first w side network at e c told way bads sized present does (suc k) le =
-    by (half_leads r laws first w side network at e c told way bads sized present does k (omega (arith, le))) (flag (among c.faulty k))
-  where
-    by : ((new : Committee) × Way r first (side_told network at e side told k) (with_side side w new) × Half network at e c new k) → (among c.faulty k ≡ true) ⊎ (among c.faulty k ≡ false)
-        → (new : Committee) × Way r first (side_told network at e side told (suc k)) (with_side side w new) × Half network at e c new (suc k)
-    by (new, on, half) (inl bad) = (
-      new,
-      subst (λ (t : Told). Way r first t (with_side side w new)) (ap {B = Told} (λ q. cond q (side_told network at e side told k) (deeds_told side k (side_told network at e side told k) (network.deeds at e k))) (sym (ap (λ fs. among fs k) (sym bads) ∙ bad))) on,
-      record {
-        faulty = half.faulty;
-        size = half.size;
-        did = λ s lt inside correct.
-            ⊎_elim (λ before. half.did s before inside correct)
-            (λ past. let same : s ≡ k = omega (arith, lt, past) in absurd (true≢false (sym bad ∙ ap (among c.faulty) (sym same) ∙ correct)))
-            (cases_lt s k);
-        left = λ s past. half.left s (omega (arith, past));
-      },
-    )
-    by (new, on, half) (inr good) =
-        let (was, acts) = does k (omega (arith, le)) good in
-        let is : contents_of new k ≡ comes_with network at e k = half.left k (omega arith) ∙ was in
-        let (then, way_then, changed) = shard_leads r laws first w side k (network.deeds at e k) new (side_told network at e side told k) on present (ap (λ fs. among fs k) half.faulty ∙ good) (omega (arith, half.size, le)) (half.size ∙ sized)
-        (subst (λ (m : Contents). ActsEach r w.log k m (network.deeds at e k)) (sym is) acts) in (
-          then,
-          subst (λ (t : Told). Way r first t (with_side side w then)) (ap {B = Told} (λ q. cond q (side_told network at e side told k) (deeds_told side k (side_told network at e side told k) (network.deeds at e k))) (sym (ap (λ fs. among fs k) (sym bads) ∙ good))) way_then,
-          record {
-            faulty = changed.faulty ∙ half.faulty;
-            size = changed.size ∙ half.size;
-            did = λ s lt inside correct.
-                ⊎_elim (λ before. changed.others s (λ same. omega (arith, same, before)) ∙ half.did s before inside correct)
-                (λ past. subst (λ (t : ℕ). contents_of then t ≡ leaves_with network at e t) (omega (arith, lt, past)) (changed.here ∙ ap (last_held (network.deeds at e k)) is))
-                (cases_lt s k);
-            left = λ s past. changed.others s (λ same. omega (arith, same, past)) ∙ half.left s (omega (arith, past));
-          },
-        )
+    let (new, on, half) = half_leads r laws first w side network at e c told way bads sized present does k (omega (arith, le)) in
+    let is : among (network.faulty e) k ≡ among c.faulty k = ap (λ fs. among fs k) (sym bads) in
+    ⊎_elim
+    (λ bad.
+    let out = is ∙ bad in
+    (new, rw out on, half_more network at e k c new new (contents_of new k) half (record { faulty = refl; size = refl; here = refl; others = λ t other. refl }) (λ good. absurd (true≢false (sym bad ∙ good)))))
+    (λ good.
+    let (was, acts) = does k (omega (arith, le)) good in
+    let holds : contents_of new k ≡ comes_with network at e k = half.left k (omega arith) ∙ was in
+    let (then, way_then, changed) = shard_leads r laws first w side k (network.deeds at e k) new (side_told network at e side told k) on present (ap (λ fs. among fs k) half.faulty ∙ good) (omega (arith, half.size, le)) (half.size ∙ sized)
+    (subst (λ (m : Contents). ActsEach r w.log k m (network.deeds at e k)) (sym holds) acts) in
+    let fine = is ∙ good in
+    (then, rw fine way_then, half_more network at e k c new then _ half changed (λ correct. ap (last_held (network.deeds at e k)) holds)))
+    (flag (among c.faulty k))
 
 is_there : (w : World) (side : Side) → IsThere w.log (epoch_of side w)
 is_there w Now = serves

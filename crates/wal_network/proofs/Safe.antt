@@ -61,10 +61,7 @@ module _ (r : Rules) (laws : Laws r) (network : Network) (size : ℕ) (history :
       either : (id : BlobId) → AllSound r s (leaves_with network at e s) → (b : Bool) → r.IsSound id s (cond b (parts_at (leaves_with network at e s) id) no_parts)
       either id was true = was id
       either id was false = laws.nothing_sound id s
-  pass_sound at e s lt correct sound (Body.Register id until) lands there = plain at e s (Body.Register id until) refl correct sound there
-  pass_sound at e s lt correct sound (Body.Ack t id) lands there = plain at e s (Body.Ack t id) refl correct sound there
-  pass_sound at e s lt correct sound (Body.Attest t id) lands there = plain at e s (Body.Attest t id) refl correct sound there
-  pass_sound at e s lt correct sound (Body.Ready t) lands there = plain at e s (Body.Ready t) refl correct sound there
+  pass_sound at e s lt correct sound b lands there = plain at e s b refl correct sound there
 
   comes_sound : (at e s : ℕ) → at ≤ size → IsThere (log_at network at) e → s < committee_size r.f → among (network.faulty e) s ≡ false → AllSound r s (comes_with network at e s)
   comes_sound zero e s le there lt correct = empty_sound s
