@@ -30,7 +30,7 @@ pub record IsPlain (seal : Seal) : Type 0 where
   pub exact : (head other : List ℕ) (post next : Post)
       → seal.text head post ≡ seal.text other next → (head ≡ other) × (post ≡ next)
 
--- the head of a chain: with each post it is the digest of the text over the head so far and the post
+-- the head of a chain: with each post, the digest of the text over the head so far and this post
 abbrev pub chain_head : Seal → List Post → List ℕ
 chain_head seal chain =
     fold (λ head post. seal.digest (seal.text head post)) seal.start chain

@@ -66,9 +66,9 @@ pub record AreSeatsOf (seats : Seats) (log : Log) : Type 0 where
   pub faults : log.f ≡ seats.f
   pub owned : owners_at log seats.epoch ≡ seats.owners
 
--- what a committee decides on a chain behind a place: a blob that was registered there is certified,
--- or invalid; the change of the epoch that begins there has a quorum of ready shards of the next
--- committee; or a quorum agrees
+-- a committee has decided about what stands at a place of a chain: of a blob that was registered
+-- there a quorum holds it, or denies it; for the change of the epoch that begins there a quorum of
+-- the next committee is ready; or a quorum voted on it in any way, as on agreeing to the change
 pub data HasDecided (seal : Seal) (seats : Seats) (chain : List Post) (place : ℕ) : Type 0 where
   claimed : (log : Log) (id : BlobId) (kind : Kind) → AreSeatsOf seats log
       → AreOn seal chain place (own_entries log id)
