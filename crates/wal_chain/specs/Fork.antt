@@ -23,7 +23,8 @@ AreInTurn seal last [] = ⊤
 AreInTurn seal last (next ∷ posts) = IsMadeAfter seal last next × AreInTurn seal next posts
 
 -- the node of a shard made all its votes that stand on two chains one after the other
-pub record IsSteadfast (seal : Seal) (seats : Seats) (one other : List Post) (shard : ℕ) : Type 0 where
+pub record IsSteadfast (seal : Seal) (seats : Seats)
+    (one other : List Post) (shard : ℕ) : Type 0 where
   pub first : Post
   pub others : List Post
   pub in_turn : AreInTurn seal first others

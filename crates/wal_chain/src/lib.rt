@@ -8,8 +8,8 @@ ghost use Rattle.wal_chain.specs.Fork.{IsFork, IsSound};
 ghost use Rattle.wal_chain.specs.Votes.{HasDecided, Seats};
 
 /// Of two chains that part, at most one goes on: if a committee of which at most f shards are
-/// faulty decided anything on both, about what stands behind the parting, the digest is broken. What
-/// it decided need not be of one kind, nor of one blob.
+/// faulty decided anything on both, about what stands behind the parting, two texts have one
+/// digest. What it decided need not be of one kind, nor of one blob.
 pub fn one_chain()
     ensures one { (seal : Seal) (seats : Seats) (fork here there : ℕ) (chain other : List Post)
         → IsPlain seal → IsFork fork chain other → IsSound seal seats chain other
