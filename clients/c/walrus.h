@@ -53,9 +53,10 @@ uint8_t walrus_run(const uint8_t *words, size_t words_len,
                    uint64_t *written, uint64_t *needed);
 
 /* Says how much room is enough for the words and any input of input_len bytes: a call of walrus_run with such an output
- * never has the status WALRUS_NO_ROOM. WALRUS_ROOM_UNKNOWN says that no such number is given: for replay and sample, and
- * for words that are none. WALRUS_ROOM_NO_MEMORY says that there was no memory to read the words. The numbers stand in
- * docs/LIBRARY.md; those for challenge, gateway and serve may be more than a process can have. */
+ * never has the status WALRUS_NO_ROOM. A number is given for id, encode, read, check and verify, and for words that ask
+ * for nothing. WALRUS_ROOM_UNKNOWN says that none is: for any other command, and for words that are none. Choose a room
+ * then, and call again with *needed where it was too small. WALRUS_ROOM_NO_MEMORY says that there was no memory to read
+ * the words. The numbers stand in docs/LIBRARY.md. */
 uint64_t walrus_room(const uint8_t *words, size_t words_len, uint64_t input_len);
 
 #define WALRUS_ROOM_UNKNOWN UINT64_MAX

@@ -90,11 +90,11 @@ class Calls:
             self.assertEqual(walrus.run("encode", 1, data=SIX_WORDS, room=room), (0, HONEST.envelopes()))
 
     def test_room_that_is_had(self) -> None:
-        """A read gets the room that the library reports: the size of its input, and at least that of a line. A result
-        that may be longer than the longest blob gets no more than that, too: 16,995,370 bytes for `recover`."""
+        """A read gets the room that the library reports: the size of its input, and at least that of a line. A sliver
+        gets no more room than one of the longest blob takes, however long the input is."""
         if not isinstance(walrus.engine(), walrus.Library):
             self.skipTest("the program has no room")
-        long = HONEST.envelopes() + envelope(0, bytes(16_999_999))
+        long = HONEST.envelopes() + envelope(0, bytes(17_999_999))
         with mock.patch.object(engines, "Room", side_effect=engines.Room) as room:
             self.assertEqual(walrus.read(HONEST.id, HONEST.envelopes()), SIX_WORDS)
             with self.assertRaises(walrus.Lacking):
@@ -102,7 +102,39 @@ class Calls:
             with self.assertRaises(walrus.Lacking):
                 walrus.recover(HONEST.id, "primary", 2, long)
         sizes = [call.args[0] for call in room.call_args_list]
-        self.assertEqual(sizes, [len(HONEST.envelopes()), 272, 16_995_370])
+        self.assertEqual(sizes, [len(HONEST.envelopes()), 272, 17_825_792])
+
+    def test_one_run_where_no_room_is_told(self) -> None:
+        """A command for which the library reports no bound is run once, with room for all that it writes: over small
+        inputs and large ones, by the call of its own, or by its words alone."""
+        if not isinstance(walrus.engine(), walrus.Library):
+            self.skipTest("the program has no room")
+        blob = bytes(range(256)) * 16_384
+        made = walrus.encode(blob, 1)
+        held = [made.metadata, *made.slivers[1]]
+        opened = [HONEST.metadata, *(HONEST.opening(PRIMARY, 2, cross) for cross in range(3))]
+        packed = walrus.bundle([blob[:999], blob[:1_000_000]], 1)
+        bundled = walrus.encode(packed, 1)
+        columns = [bundled.metadata, *(secondary for _, secondary in bundled.slivers)]
+        image = walrus.run("image", 2**24, data=walrus.stream(held)).text
+        gets = [made.metadata, made.slivers[0][0], made.slivers[1][0]]
+        gets.append(b"\x43" + made.identifier + (0).to_bytes(4, "big") + len(blob).to_bytes(4, "big"))
+        runs = {
+            "recover": lambda: walrus.recover(HONEST.id, "primary", 2, opened),
+            "bundle": lambda: walrus.bundle([blob, blob], 1),
+            "member": lambda: walrus.member(bundled.identifier, 1, columns),
+            "challenge": lambda: walrus.challenge(made.identifier, 1, BEACON, 60, held),
+            "serve": lambda: walrus.serve(1, 1, [*stored(made, 1), b"\x20" + made.identifier]),
+            "image": lambda: walrus.run("image", 2**24, data=walrus.stream(held)),
+            "unpack": lambda: walrus.run("unpack", data=image),
+            "gateway": lambda: walrus.run("gateway", 1, data=walrus.stream(gets)),
+            "sample": lambda: walrus.run("sample", 1),
+            "replay": lambda: walrus.run("replay", data=walrus.run("sample", 1).text),
+        }
+        for command, run in runs.items():
+            with self.subTest(command=command), mock.patch.object(engines, "Room", side_effect=engines.Room) as room:
+                run()
+                self.assertEqual(room.call_count, 2 if command == "replay" else 1)
 
     def test_read(self) -> None:
         made = walrus.encode(SIX_WORDS, 1)

@@ -6,12 +6,13 @@ from typing import Literal, NamedTuple, Optional
 
 from .buffers import Buffer
 from .codes import SHOWS_NOTHING, Code
-from .engines import ROOM, Ran, engine
+from .engines import MOST_ROOM, ROOM, Ran, engine
 from .envelopes import Payloads, split, stream, streamed
 from .faults import BadlyEncoded, Lacking, refused
 
 Axis = Literal["primary", "secondary"]
 LARGEST_BLOB = 16_777_216
+LONGEST = 17_825_792  # bytes; no sliver, proof or member is longer
 
 
 @dataclass(frozen=True)
@@ -38,8 +39,9 @@ class Encoded(NamedTuple):
 
 
 def run(*words: object, data: Buffer = b"", room: Optional[int] = None) -> Ran:
-    """Run any command. `room` is the likely number of bytes of output, worth giving if the library reports no bound for
-    the command, or a larger one than is likely; a guess that is large enough saves a second run."""
+    """Run any command. `room` is the likely number of bytes of output, worth giving for a command for which the library
+    reports no bound, so for any but id, encode, read, check and verify; a guess that is large enough saves a second
+    run."""
     return engine().run(list(map(str, words)), data, room)
 
 
@@ -79,7 +81,7 @@ def read(identifier: bytes, payloads: Payloads) -> memoryview:
 def recover(identifier: bytes, axis: Axis, index: int, payloads: Payloads) -> memoryview:
     """Return a sliver, as a frame, from openings of it. Raises `BadlyEncoded` with the proof if they show that."""
     data, room = given(payloads)
-    text = result("recover", identifier.hex(), axis, index, data=data, room=room)
+    text = result("recover", identifier.hex(), axis, index, data=data, room=min(room, LONGEST))
     return text[7:]
 
 
@@ -98,18 +100,20 @@ def check(identifier: bytes, payloads: Payloads) -> Verdict:
 
 def bundle(members: Iterable[Buffer], faults: int) -> memoryview:
     """Return one blob that contains small ones, at most 2f. Raises `Lacking` if they do not fit."""
-    return result("bundle", faults, data=stream(members))
+    return result("bundle", faults, data=stream(members), room=LARGEST_BLOB)
 
 
 def member(identifier: bytes, number: int, payloads: Payloads) -> memoryview:
     """Return a member of a bundle from secondary slivers or openings of them. `Lacking` names the missing column."""
     data, room = given(payloads)
-    return result("member", identifier.hex(), number, data=data, room=room)
+    return result("member", identifier.hex(), number, data=data, room=min(room, LONGEST))
 
 
 def challenge(identifier: bytes, shard: int, beacon: bytes, count: int, payloads: Payloads) -> memoryview:
     """Return the envelopes with which a shard that holds its slivers answers `count` draws by a beacon."""
-    return result("challenge", identifier.hex(), shard, beacon.hex(), count, data=streamed(payloads))
+    data, room = given(payloads)  # for each draw a symbol, of which the slivers have five at least, and 370 bytes
+    likely = min(room + count * (370 + room // 5), MOST_ROOM)
+    return result("challenge", identifier.hex(), shard, beacon.hex(), count, data=data, room=likely)
 
 
 def verify(identifier: bytes, shard: int, beacon: bytes, count: int, payloads: Payloads) -> Verdict:

@@ -15,7 +15,7 @@ from .codes import Code
 HERE = pathlib.Path(__file__).resolve().parent
 BUILT = pathlib.Path("clients", "c", "out", "libwalrus.so"), pathlib.Path("crates", "walrus_c", "out", "libwalrus.so")
 PROGRAM = pathlib.Path("crates", "walrus", "out", "walrus")
-NO_ROOM, ROOM = 7, 4_096  # the status if the output has too little room; bytes of room if no bound is known
+NO_ROOM, ROOM = 7, 4_096  # the status if the output has too little room; bytes of an output besides those of its input
 MOST_ROOM = 134_217_728  # the most bytes allocated at first, if the library reports a bound
 LARGE = 16_777_216  # bytes; a guess above this is compared with the library's bound, which may be smaller
 UNTOLD = 2**64 - 2  # from here on numbers are the library's reasons why it reports no bound
@@ -30,7 +30,8 @@ class Ran(NamedTuple):
 
 class Engine(Protocol):
     """Runs commands. `run` is given the words without the program's name, the input, and the likely number of bytes of
-    output, if that may be smaller than the library's bound."""
+    output, if the library has no bound for the command, or a larger one. Otherwise the library's bound is used, or the
+    input twice and the longest blob."""
 
     def run(self, words: Sequence[str], data: Buffer = b"", room: Optional[int] = None) -> Ran:
         ...
@@ -69,7 +70,7 @@ class Library:
         with pinned(data) as (address, size):
             if room is None or room > LARGE:
                 enough = int(self.room(told, len(told), size))
-                likely = room or (MOST_ROOM if enough < UNTOLD else ROOM)
+                likely = room or (MOST_ROOM if enough < UNTOLD else min(2 * size + LARGE, MOST_ROOM))
                 room = min(enough, likely)
             while True:
                 output = Room(room)

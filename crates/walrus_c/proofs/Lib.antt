@@ -1,11 +1,8 @@
 mod Calls
-mod Images
+mod Encodings
 mod Lines
-mod Listings
-mod Ranges
-mod RangeTexts
+mod ReadTexts
 mod Rooms
-mod ServeTexts
 mod Shown
 mod Splits
 mod Lengths

@@ -1,6 +1,7 @@
 -- THE CODE of a refusal: its number, by the status and by the words with which the text begins.
-use Rattle.std.specs.Prelude.{ℕ, List, [], ◌∷◌, codes, ◌&&◌, ◌==◌, nat_eq, if◌then◌else◌}
-use Rattle.std.specs.List.{starts_with}
+use Rattle.std.specs.Prelude.{ℕ, List, [], ◌∷◌, codes, ◌&&◌, ◌==◌, nat_eq}
+use Rattle.std.specs.List.{find, starts_with}
+use Rattle.std.specs.Option.{option_map_or}
 
 -- a number, its status, and the words with which the text begins; no words if the text may be any
 abbrev pub Row : Type 0
@@ -8,9 +9,9 @@ Row = ℕ × ℕ × List ℕ
 
 -- the number of the first row of this status whose words are a prefix of the text, or 0
 abbrev pub first_code : List Row → ℕ → List ℕ → ℕ
-first_code [] status text = 0
-first_code (row ∷ rows) status text =
-    if row.1 == status && starts_with nat_eq text row.2 then row.0 else first_code rows status text
+first_code rows status text =
+    option_map_or (λ row. row.0)
+    (find (λ row. row.1 == status && starts_with nat_eq text row.2) rows) 0
 
 -- THE TABLE, a row for each refusal; a number is never reused for another one
 unfoldable pub refusals : List Row

@@ -2,6 +2,5 @@ pub mod Words
 pub mod Call
 pub mod Codes
 pub mod Causes
-pub mod Encoded
 pub mod Room
 pub mod inside

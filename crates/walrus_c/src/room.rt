@@ -1,19 +1,15 @@
 //! How many bytes of room suffice for the text of a call.
 
-ghost use Rattle.std.specs.Prelude.{◌≡◌, ℕ, ◌+◌, ◌*◌, ◌≤◌, map, min, string_bytes};
+ghost use Rattle.std.specs.Prelude.{◌≡◌, ◌⊎◌, ℕ, List, ◌+◌, ◌*◌, ◌≤◌, map, min, string_bytes};
 ghost use Rattle.wal_shape.specs.Shape.{most_bytes, shard_count};
 ghost use Rattle.wal_shape.specs.Spelling.{text_size};
-ghost use Rattle.walrus_c.specs.Encoded.{encoded_bytes};
-ghost use Rattle.wal_run.specs.Serving.{serve_limit};
-ghost use Rattle.walrus_c.specs.Room.{fetched_most, most_taken, no_memory_told, none_given};
-ghost use Rattle.walrus_c.specs.Room.{opening_most, room_of, served_most, whole_room};
+ghost use Rattle.walrus_c.specs.Room.{IsRoom, encoded_bytes, room_of, whole_room};
+ghost use Rattle.walrus_c.specs.Words.{AreNoWords, AreWords};
 ghost use Rattle.walrus_c.specs.inside.Ranges.{InRange, WholeInRange};
-ghost use Rattle.walrus_c.specs.inside.Rooming.{IsTold};
 
 use std::alloc::Global;
 use wal_run::NO_MEMORY;
 use wal_shape::{Axis, Format, MOST_BYTES, Shape};
-use wal_shard::reply_room;
 use wal_words::{Task, WholeTask, read_task};
 
 /// The number that says that no room is given.
@@ -31,47 +27,10 @@ const NAME_LINE: u64 = 65;
 /// The most bytes of a line.
 const ONE_LINE: u64 = 272;
 
-/// The most bytes of what `recover` writes.
-const RECOVERED_MOST: u64 = 16_995_370;
-
-/// The most bytes of an image.
-const MOST_TAKEN: u64 = 134_217_728;
-
-/// The most bytes of a member.
-const MEMBER_MOST: u64 = 17_222_772;
-
-/// The most bytes of a symbol.
-const SYMBOL_MOST: u64 = 2_796_204;
-
-/// The bytes around the symbol in the envelope of an opening.
-const AROUND_SYMBOL: u64 = 50 + 320;
-
-/// The most bytes of a gateway's line besides the digits of a range.
-const AROUND_RANGE: u64 = 34;
-
-/// The bytes of a request to a gateway in its envelope.
-const RANGE_REQUEST: u64 = 48;
-
-/// The most bytes that serving takes.
-const MOST_SERVED: u64 = 1_073_741_824;
-
-/// The most bytes of two texts that collide, in an envelope.
-const TWO_TEXTS: u64 = 140;
-
-/// The bytes of an envelope without a payload, of an answer in one, and of a request for parts in
-/// one.
-const LEAST_ENVELOPE: u64 = 7;
-
-const ANSWER: u64 = 17;
-
-const PARTS_REQUEST: u64 = 40;
-
-/// The most bytes by which the envelope of an opening is longer than that of its sliver.
-const BESIDE_PARTS: u64 = 323;
-
 /// What is told for words and an input of so many bytes.
 pub fn room_for(alloc: Global, words: &Vec<String>, count: u64) -> u64
-    ensures { IsTold (map string_bytes words.now.items) count result }
+    ensures { (text : List ℕ) → AreWords (map string_bytes words.now.items) text
+        → IsRoom text count result }
 {
     match read_task(alloc, words) {
         Ok(Some(task)) => task_room(&task, count),
@@ -82,8 +41,8 @@ pub fn room_for(alloc: Global, words: &Vec<String>, count: u64) -> u64
 
 /// What is told if there are no words, by the status that tells why.
 pub fn untold(status: u8) -> u64
-    ensures memory { status ≡ 5 → result ≡ no_memory_told }
-    ensures words { status ≡ 11 → result ≡ none_given }
+    ensures { (text : List ℕ) (count : ℕ) → (status ≡ 5) ⊎ ((status ≡ 11) × AreNoWords text)
+        → IsRoom text count result }
 {
     if status == NO_MEMORY {
         NO_MEMORY_TOLD
@@ -99,8 +58,7 @@ fn task_room(task: &Task, count: u64) -> u64
     match task {
         Task::Whole(task) => whole_task_room(task, count),
         Task::Read(_) => count.min(MOST_BYTES).max(ONE_LINE),
-        Task::Serve(service) => served_room(service.faults, count),
-        Task::Sample(_) => NONE_GIVEN,
+        _ => NONE_GIVEN,
     }
 }
 
@@ -112,44 +70,8 @@ fn whole_task_room(task: &WholeTask, count: u64) -> u64
         WholeTask::Identify(..) => NAME_LINE,
         WholeTask::Encode(faults, format) => encoded_room(*faults, *format, count.min(MOST_BYTES)),
         WholeTask::Check(_) | WholeTask::Verify(_) => ONE_LINE,
-        WholeTask::Recover(..) => RECOVERED_MOST,
-        WholeTask::Image(size) => u64::from(*size).max(ONE_LINE),
-        WholeTask::Unpack => (2 * count.min(MOST_TAKEN)).max(ONE_LINE),
-        WholeTask::Bundle(_) => MOST_BYTES,
-        WholeTask::Member(..) => MEMBER_MOST,
-        WholeTask::Challenge(audit) => answer_room(audit.count, count),
-        WholeTask::Gateway(_) => fetched_room(count),
-        WholeTask::Replay => NONE_GIVEN,
+        _ => NONE_GIVEN,
     }
-}
-
-// That of the envelopes of so many openings.
-fn answer_room(openings: u16, count: u64) -> u64
-    ensures { result ≡ openings * opening_most count }
-{
-    let opening = AROUND_SYMBOL + (count / 5).min(SYMBOL_MOST);
-    u64::from(openings) * opening
-}
-
-// That of the lines of a gateway.
-fn fetched_room(count: u64) -> u64
-    ensures { result ≡ fetched_most (min count most_taken) }
-{
-    let taken = count.min(MOST_TAKEN);
-    let line = AROUND_RANGE + 2 * taken.min(MOST_BYTES);
-    ONE_LINE + line * (taken / RANGE_REQUEST)
-}
-
-// That of the answers of a shard.
-fn served_room(faults: u32, count: u64) -> u64
-    ensures { (1 ≤ faults) × (faults ≤ 333) → result ≡ served_most faults (min count serve_limit) }
-{
-    if faults < 1 || 333 < faults {
-        return NONE_GIVEN;
-    }
-    let taken = count.min(MOST_SERVED);
-    let parts = BESIDE_PARTS + taken.min(u64::from(reply_room(faults)));
-    TWO_TEXTS + ANSWER * (taken / LEAST_ENVELOPE) + parts * (taken / PARTS_REQUEST)
 }
 
 // That of all envelopes of a blob of so many bytes.

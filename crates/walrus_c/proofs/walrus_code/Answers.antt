@@ -4,4 +4,4 @@ use Rattle.walrus_c.proofs.Shown.{shows_why}
 use Rattle.walrus_c.proofs.walrus_code.Goals as goal
 
 pub returns-clause-why : goal.returns-clause-why
-returns-clause-why c = shows_why sha256 c.args.status c.args.output.now _ c.code_of.ensures
+returns-clause-why c = rw c.code_of.ensures (shows_why sha256 c.args.status c.args.output.now)

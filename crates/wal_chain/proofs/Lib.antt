@@ -1,0 +1,4 @@
+pub mod Lists
+pub mod OneHead
+pub mod Votes
+mod Common

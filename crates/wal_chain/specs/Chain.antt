@@ -1,0 +1,54 @@
+-- Chains of posts, the head of each, and when a post counts on a chain.
+use Rattle.std.specs.Prelude.{◌≡◌, ℕ, ◌<◌, ◌≤◌, List, Some, length, take, fold, slice_get, All}
+use Rattle.wal_tree.specs.Digests.{IsByte}
+use Rattle.wal_tree.specs.Collision.{IsCollision}
+use Rattle.wal_ledger.specs.declared.entry.Entry.{Entry}
+
+-- what a post says: an entry of the ledger, or that a shard of this epoch's committee agrees to the
+-- change of the epoch
+pub data Word : Type 0 where
+  enters : Entry → Word
+  agrees : (epoch shard : ℕ) → Word
+
+-- a post: how many posts of the chain its poster had seen, the head of these, what it says, and
+-- whatever else it carries
+pub record Post : Type 0 where
+  pub seen : ℕ
+  pub head : List ℕ
+  pub says : List Word
+  pub rest : List ℕ
+
+-- how heads are made: the head of no posts, the text over a head and one more post, and a digest
+pub record Seal : Type 0 where
+  pub start : List ℕ
+  pub text : List ℕ → Post → List ℕ
+  pub digest : List ℕ → List ℕ
+
+-- texts are of bytes, and two that are the same are over the same head and the same post
+pub record IsPlain (seal : Seal) : Type 0 where
+  pub bytes : (head : List ℕ) (post : Post) → All IsByte (seal.text head post)
+  pub exact : (head other : List ℕ) (post next : Post)
+      → seal.text head post ≡ seal.text other next → (head ≡ other) × (post ≡ next)
+
+-- the head of a chain: with each post, the digest of the text over the head so far and this post
+abbrev pub chain_head : Seal → List Post → List ℕ
+chain_head seal chain =
+    fold (λ head post. seal.digest (seal.text head post)) seal.start chain
+
+-- two different texts have one digest
+abbrev pub IsBroken : Seal → Type 0
+IsBroken seal = (left : List ℕ) × (right : List ℕ) × IsCollision seal.digest left right
+
+-- what the poster had seen is on this chain
+pub record IsSeenOn (seal : Seal) (chain : List Post) (post : Post) : Type 0 where
+  pub within : post.seen ≤ length chain
+  pub same : chain_head seal (take post.seen chain) ≡ post.head
+
+-- a post counts on a chain as a vote on what stands at a place: the post stands on the chain, and
+-- its poster had seen that place, no post from its own on, and nothing that is not on this chain
+pub record Counts (seal : Seal) (chain : List Post) (place : ℕ) (post : Post) : Type 0 where
+  pub at : ℕ
+  pub stands : slice_get chain at ≡ Some post
+  pub behind : post.seen ≤ at
+  pub informed : place < post.seen
+  pub same : chain_head seal (take post.seen chain) ≡ post.head

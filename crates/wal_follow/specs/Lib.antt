@@ -1,0 +1,4 @@
+pub mod Outcomes
+pub mod Enter
+pub mod Ledger
+pub mod Told

@@ -1,0 +1,4 @@
+pub mod Deeds
+pub mod Network
+pub mod AsRun
+pub mod Promised
