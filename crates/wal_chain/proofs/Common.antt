@@ -17,6 +17,6 @@ pub use Rattle.wal_ledger.specs.Shards.{count_below, committee_size, quorum_size
 pub use Rattle.wal_ledger.specs.Ledger.{Log, phase, writing, owners_at, own_entries, same_node, signs_for, readies, signers, ready_shards, is_begin}
 pub use Rattle.wal_ledger.specs.Kept.{IsLawful}
 pub use Rattle.wal_ledger.proofs.Quorums.{count_below-split, count_below-some}
-pub use Rattle.wal_chain.specs.Chain.{Post, Seal, IsPlain, AreTaken, chain_head, IsBroken, IsSeenOn, Counts, Word, enters, agrees}
+pub use Rattle.wal_chain.specs.Chain.{Post, Seal, IsPlain, AreAllowed, chain_head, IsBroken, IsSeenOn, Counts, Word, enters, agrees}
 pub use Rattle.wal_chain.specs.Votes.{Seats, is_shared, speaks_for, votes_for, is_vote, HasVotes, is_claim, is_ready, IsBy, AreOn, AreSeatsOf, HasDecided, claimed, readied, voted}
 pub use Rattle.wal_chain.specs.Fork.{IsFork, IsMadeAfter, AreInTurn, IsSteadfast, IsSound}

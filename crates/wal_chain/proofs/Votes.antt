@@ -1,5 +1,5 @@
 -- What is decided was voted by a quorum, and two quorums on two chains have a correct shard in common.
-use Rattle.wal_chain.proofs.Common.{◌≡◌, ℕ, ◌<◌, ◌≤◌, Bool, true, false, ◌&&◌, nat_eq, inl, inr, ⊎_elim, List, Contains, refl, ap, ◌∙◌, subst, arith, and_parts, eq-eqb, eqb-true, lt-ltb, false≢true, slice_get_within, get_or_from_slice_get, Body, Ack, Attest, Ready, Entry, Kind, Holds, Denies, count_below, committee_size, quorum_size, phase, writing, owners_at, own_entries, signs_for, readies, signers, ready_shards, is_begin, same_node, node_of, Post, Seal, IsPlain, AreTaken, IsBroken, IsSeenOn, Counts, enters, Seats, is_shared, speaks_for, votes_for, is_vote, HasVotes, is_claim, is_ready, IsBy, AreOn, HasDecided, claimed, readied, voted, IsFork, IsSound}
+use Rattle.wal_chain.proofs.Common.{◌≡◌, ℕ, ◌<◌, ◌≤◌, Bool, true, false, ◌&&◌, nat_eq, inl, inr, ⊎_elim, List, Contains, refl, ap, ◌∙◌, subst, arith, and_parts, eq-eqb, eqb-true, lt-ltb, false≢true, slice_get_within, get_or_from_slice_get, Body, Ack, Attest, Ready, Entry, Kind, Holds, Denies, count_below, committee_size, quorum_size, phase, writing, owners_at, own_entries, signs_for, readies, signers, ready_shards, is_begin, same_node, node_of, Post, Seal, IsPlain, AreAllowed, IsBroken, IsSeenOn, Counts, enters, Seats, is_shared, speaks_for, votes_for, is_vote, HasVotes, is_claim, is_ready, IsBy, AreOn, HasDecided, claimed, readied, voted, IsFork, IsSound}
 use Rattle.wal_chain.proofs.Lists.{any_member, member_any, common_correct}
 use Rattle.wal_chain.proofs.OneHead.{pair, meet}
 
@@ -76,7 +76,7 @@ stands_on : (seal : Seal) (chain : List Post) (place : ℕ) (post : Post) → Co
 stands_on seal chain place post counts = (counts.at, slice_get_within chain counts.at post counts.stands, get_or_from_slice_get chain counts.at post post counts.stands)
 
 -- of two chains that part, one committee decides on one alone
-pub one_goes_on : (seal : Seal) (seats : Seats) (fork here there : ℕ) (chain other : List Post) → IsPlain seal → AreTaken seal chain → AreTaken seal other → IsFork fork chain other → IsSound seal seats chain other
+pub one_goes_on : (seal : Seal) (seats : Seats) (fork here there : ℕ) (chain other : List Post) → IsPlain seal → AreAllowed seal chain → AreAllowed seal other → IsFork fork chain other → IsSound seal seats chain other
     → fork ≤ here → HasDecided seal seats chain here → fork ≤ there → HasDecided seal seats other there → IsBroken seal
 one_goes_on seal seats fork here there chain other plain of_one of_other parts sound le_here on_one le_there on_other =
     let v = was_voted seal seats chain here on_one in

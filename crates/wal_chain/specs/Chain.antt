@@ -23,7 +23,7 @@ pub record Post : Type 0 where
 -- which posts a chain may have, and how heads are made: the head of no posts, which lists can be
 -- heads, the text over a head and one more post, and a digest
 pub record Seal : Type 0 where
-  pub is_taken : Post → Bool
+  pub is_allowed : Post → Bool
   pub start : List ℕ
   pub is_head : List ℕ → Bool
   pub text : List ℕ → Post → List ℕ
@@ -33,18 +33,18 @@ pub record Seal : Type 0 where
 -- same head and the same post
 pub record IsPlain (seal : Seal) : Type 0 where
   pub first : seal.is_head seal.start ≡ true
-  pub more : (head : List ℕ) (post : Post) → seal.is_head head ≡ true → seal.is_taken post ≡ true
+  pub more : (head : List ℕ) (post : Post) → seal.is_head head ≡ true → seal.is_allowed post ≡ true
       → seal.is_head (seal.digest (seal.text head post)) ≡ true
-  pub bytes : (head : List ℕ) (post : Post) → seal.is_head head ≡ true → seal.is_taken post ≡ true
+  pub bytes : (head : List ℕ) (post : Post) → seal.is_head head ≡ true → seal.is_allowed post ≡ true
       → All IsByte (seal.text head post)
   pub exact : (head other : List ℕ) (post next : Post) → seal.is_head head ≡ true
-      → seal.is_head other ≡ true → seal.is_taken post ≡ true → seal.is_taken next ≡ true
+      → seal.is_head other ≡ true → seal.is_allowed post ≡ true → seal.is_allowed next ≡ true
       → seal.text head post ≡ seal.text other next → (head ≡ other) × (post ≡ next)
 
 -- a chain has no other posts than it may have
-abbrev pub AreTaken : Seal → List Post → Type 0
-AreTaken seal [] = ⊤
-AreTaken seal (post ∷ posts) = (seal.is_taken post ≡ true) × AreTaken seal posts
+abbrev pub AreAllowed : Seal → List Post → Type 0
+AreAllowed seal [] = ⊤
+AreAllowed seal (post ∷ posts) = (seal.is_allowed post ≡ true) × AreAllowed seal posts
 
 -- the head of a chain: with each post, the digest of the text over the head so far and this post
 abbrev pub chain_head : Seal → List Post → List ℕ

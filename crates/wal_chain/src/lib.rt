@@ -3,7 +3,7 @@
 #![tactic(auto)]
 
 ghost use Rattle.std.specs.Prelude.{◌≡◌, ◌⊎◌, ℕ, ◌≤◌, List, length};
-ghost use Rattle.wal_chain.specs.Chain.{AreTaken, chain_head, IsBroken, IsPlain, IsSeenOn};
+ghost use Rattle.wal_chain.specs.Chain.{AreAllowed, chain_head, IsBroken, IsPlain, IsSeenOn};
 ghost use Rattle.wal_chain.specs.Chain.{Post, Seal};
 ghost use Rattle.wal_chain.specs.Fork.{IsFork, IsSound};
 ghost use Rattle.wal_chain.specs.Votes.{HasDecided, Seats};
@@ -14,7 +14,7 @@ ghost use Rattle.wal_chain.specs.Votes.{HasDecided, Seats};
 /// committees behind it.
 pub fn one_chain()
     ensures one { (seal : Seal) (seats : Seats) (fork here there : ℕ) (chain other : List Post)
-        → IsPlain seal → AreTaken seal chain → AreTaken seal other
+        → IsPlain seal → AreAllowed seal chain → AreAllowed seal other
         → IsFork fork chain other → IsSound seal seats chain other
         → fork ≤ here → HasDecided seal seats chain here
         → fork ≤ there → HasDecided seal seats other there → IsBroken seal }
@@ -24,7 +24,7 @@ pub fn one_chain()
 /// what had been seen by then is on both chains, if it is on one.
 pub fn heads()
     ensures same { (seal : Seal) (chain other : List Post) → IsPlain seal
-        → AreTaken seal chain → AreTaken seal other
+        → AreAllowed seal chain → AreAllowed seal other
         → length chain ≡ length other → chain_head seal chain ≡ chain_head seal other
         → (chain ≡ other) ⊎ IsBroken seal }
     ensures early { (seal : Seal) (fork : ℕ) (chain other : List Post) (post : Post)

@@ -85,7 +85,7 @@ HasVerdict rules id payloads =
 
 -- a read of these payloads completes: a result that it has is bytes or a rejection, and it is
 -- impossible that it has none, unless two metadata of the blob differ
-pub record Completes (rules : Rules) (id : BlobId) (payloads : List (List ℕ)) : Type 0 where
+pub record IsCompleteRead (rules : Rules) (id : BlobId) (payloads : List (List ℕ)) : Type 0 where
   pub each : (word : ReadWord) (evidence : Option Evidence)
       → rules.Reads id payloads word evidence → (told : Verdict) × (told_by word ≡ Some told)
   pub some : All AreBytes payloads
@@ -102,7 +102,7 @@ CompletesReads rules network size =
     → ((shard : ℕ) → shard < committee_size rules.f
     → among (network.faulty (home_epoch (log_at network from) id)) shard ≡ false
     → IsHeardOf rules network size from (home_epoch (log_at network from) id) id payloads shard)
-    → Completes rules id payloads
+    → IsCompleteRead rules id payloads
 
 -- COMMITTED: a correct shard that recovered a sliver holds a metadata that the identifier commits,
 -- and by it the bytes are its sliver, for any number of faulty shards
