@@ -1,5 +1,6 @@
 -- Chains of posts, the head of each, and when a post counts on a chain.
-use Rattle.std.specs.Prelude.{◌≡◌, ℕ, ◌<◌, ◌≤◌, List, Some, length, take, fold, slice_get, All}
+use Rattle.std.specs.Prelude.{◌≡◌, ℕ, ◌<◌, ◌≤◌, Bool, true, List, [], ◌∷◌, Some, length, take}
+use Rattle.std.specs.Prelude.{fold, slice_get, All, ⊤}
 use Rattle.wal_tree.specs.Digests.{IsByte}
 use Rattle.wal_tree.specs.Collision.{IsCollision}
 use Rattle.wal_ledger.specs.declared.entry.Entry.{Entry}
@@ -10,25 +11,40 @@ pub data Word : Type 0 where
   enters : Entry → Word
   agrees : (epoch shard : ℕ) → Word
 
--- a post: how many posts of the chain its poster had seen, the head of these, what it says, and
--- whatever else it carries
+-- a post: the node whose post it is, how many posts of the chain this had seen, the head of these,
+-- what it says, and whatever else it carries
 pub record Post : Type 0 where
+  pub by : ℕ
   pub seen : ℕ
   pub head : List ℕ
   pub says : List Word
   pub rest : List ℕ
 
--- how heads are made: the head of no posts, the text over a head and one more post, and a digest
+-- which posts a chain may have, and how heads are made: the head of no posts, which lists can be
+-- heads, the text over a head and one more post, and a digest
 pub record Seal : Type 0 where
+  pub is_allowed : Post → Bool
   pub start : List ℕ
+  pub is_head : List ℕ → Bool
   pub text : List ℕ → Post → List ℕ
   pub digest : List ℕ → List ℕ
 
--- texts are of bytes, and two that are the same are over the same head and the same post
+-- heads are made from heads, texts over them are of bytes, and two that are the same are over the
+-- same head and the same post
 pub record IsPlain (seal : Seal) : Type 0 where
-  pub bytes : (head : List ℕ) (post : Post) → All IsByte (seal.text head post)
-  pub exact : (head other : List ℕ) (post next : Post)
+  pub first : seal.is_head seal.start ≡ true
+  pub more : (head : List ℕ) (post : Post) → seal.is_head head ≡ true → seal.is_allowed post ≡ true
+      → seal.is_head (seal.digest (seal.text head post)) ≡ true
+  pub bytes : (head : List ℕ) (post : Post) → seal.is_head head ≡ true → seal.is_allowed post ≡ true
+      → All IsByte (seal.text head post)
+  pub exact : (head other : List ℕ) (post next : Post) → seal.is_head head ≡ true
+      → seal.is_head other ≡ true → seal.is_allowed post ≡ true → seal.is_allowed next ≡ true
       → seal.text head post ≡ seal.text other next → (head ≡ other) × (post ≡ next)
+
+-- a chain has no other posts than it may have
+abbrev pub AreAllowed : Seal → List Post → Type 0
+AreAllowed seal [] = ⊤
+AreAllowed seal (post ∷ posts) = (seal.is_allowed post ≡ true) × AreAllowed seal posts
 
 -- the head of a chain: with each post, the digest of the text over the head so far and this post
 abbrev pub chain_head : Seal → List Post → List ℕ

@@ -2,7 +2,7 @@
 use Rattle.std.specs.Prelude.{◌≡◌, ◌≢◌, ◌⊎◌, ℕ, ◌+◌, ◌<◌, ◌≤◌, true, false, List, [], ◌∷◌}
 use Rattle.std.specs.Prelude.{take, Contains, ⊤}
 use Rattle.wal_ledger.specs.Shards.{count_below, committee_size}
-use Rattle.wal_chain.specs.Chain.{Post, Seal, IsSeenOn}
+use Rattle.wal_chain.specs.Chain.{Post, Seal, AreAllowed, IsSeenOn}
 use Rattle.wal_chain.specs.Votes.{Seats, is_vote}
 
 -- two chains part at a place: they are the same before it, and not with it
@@ -14,6 +14,7 @@ pub record IsFork (place : ℕ) (one other : List Post) : Type 0 where
 pub record IsMadeAfter (seal : Seal) (last next : Post) : Type 0 where
   pub grows : last.seen ≤ next.seen
   pub chain : List Post
+  pub allowed : AreAllowed seal chain
   pub has_last : IsSeenOn seal chain last
   pub has_next : IsSeenOn seal chain next
 
@@ -22,7 +23,7 @@ abbrev pub AreInTurn : Seal → Post → List Post → Type 0
 AreInTurn seal last [] = ⊤
 AreInTurn seal last (next ∷ posts) = IsMadeAfter seal last next × AreInTurn seal next posts
 
--- the node of a shard made all its votes that stand on two chains one after the other
+-- the node of a shard made all its posts with votes that stand on two chains one after the other
 pub record IsSteadfast (seal : Seal) (seats : Seats)
     (one other : List Post) (shard : ℕ) : Type 0 where
   pub first : Post

@@ -18,7 +18,11 @@ use Rattle.wal_shard.specs.declared.answers.AckRefusal.TheVariants as refusing
 use Rattle.wal_shard.specs.Putting.{CanBePut, IsAccepted, Puts, PutsOrWants}
 use Rattle.wal_shard.specs.State.{desk, desk_of}
 use Rattle.wal_serve.specs.State.{ServedState, named, holding}
-use Rattle.wal_serve.specs.Requests.{Vouched, unbacked, asked, Forgets, forgotten, kept}
+use Rattle.wal_ledger.specs.Answers.{claim_of}
+use Rattle.wal_ledger.specs.Ledger.{LedgerState, takes_in}
+use Rattle.wal_ledger.specs.declared.answers.AckAnswer.TheVariants as acking
+use Rattle.wal_ledger.specs.declared.answers.AttestAnswer.TheVariants as attesting
+use Rattle.wal_serve.specs.Requests.{ClaimEntered, Vouched, unbacked, asked, Forgets, forgotten, kept}
 use Rattle.wal_serve.specs.Reply.{put_reply, reply, refused as refused_reply, reply_text}
 use Rattle.wal_serve.specs.Answers.{AnswersRead, AnswersPut, AnswersEntry, IsReplyOutcome}
 use Rattle.wal_theorem.specs.Instance.{rules_of}
@@ -32,6 +36,21 @@ domain_of {A = A} f = A
 
 abbrev Reply : Type 0
 Reply = domain_of reply_text
+
+-- a claim is taken into the ledger, or leaves it as it is
+adds : (kind : Kind) (old : LedgerState) (shard : ℕ) (id : BlobId) (reply : Reply) (new : LedgerState) → ClaimEntered kind old shard id reply new → (new ≡ old) ⊎ (new ≡ takes_in old (claim_of kind shard id))
+adds Holds old shard id reply new (acking.Unregistered, h, is) = inl h.1
+adds Holds old shard id reply new (acking.Expires, h, is) = inl h.2
+adds Holds old shard id reply new (acking.Already, h, is) = inl h.2
+adds Holds old shard id reply new (acking.NoRoom, h, is) = inl h.2
+adds Holds old shard id reply new (acking.Counted count, h, is) = inr h.0.2
+adds Holds old shard id reply new (acking.Certified count, h, is) = inr h.0.2
+adds Denies old shard id reply new (attesting.Unregistered, h, is) = inl h.1
+adds Denies old shard id reply new (attesting.Expires, h, is) = inl h.2
+adds Denies old shard id reply new (attesting.Already, h, is) = inl h.2
+adds Denies old shard id reply new (attesting.NoRoom, h, is) = inl h.2
+adds Denies old shard id reply new (attesting.Counted count, h, is) = inr h.0.2
+adds Denies old shard id reply new (attesting.Invalid count, h, is) = inr h.0.2
 
 module _ (digest : List ℕ → List ℕ) (may_want : Bool) (s : ServedState) (payload : List ℕ) (frames : List (List ℕ)) (clash : Option MetaClash) where
   -- a put
@@ -49,7 +68,7 @@ module _ (digest : List ℕ → List ℕ) (may_want : Bool) (s : ServedState) (p
             (refused payload frame answer word contents (reads, part) ((frame_is payload frame reads).fits, puts) stays);
         told = (Answer code 0 0, frame_of_word, t.0);
         ledger = refl;
-      })
+      }) t.1
 
       wants : (code a b : ℕ) → (code ≡ 6) ⊎ ((code ≡ 7) ⊎ (code ≡ 10)) → contents ≡ s.shard.contents → IsReplyOutcome (Ok (reply code a b)) frames clash → EndsAsDeed digest s (put payload) frames clash (holding s contents)
       wants code a b want same t = lacks (record { code = code; a = a; b = b; wants = want; told = t.0; goes_on = t.1; same = ap {B = ServedState} (holding s) same })
@@ -60,25 +79,26 @@ module _ (digest : List ℕ → List ℕ) (may_want : Bool) (s : ServedState) (p
         acts = stored payload frame contents (reads, part) ((frame_is payload frame reads).fits, (plain h.0, h.1, tt, h.3));
         told = (Answer 0 0 0, refl, t.0);
         ledger = refl;
-      })
+      }) t.1
       by putting.Held h t = leaves putting.Held sending.Held 11 h.2 (plain h.0, h.1, h.2) held refl t
       by putting.Unregistered h t = leaves putting.Unregistered sending.Unregistered 1 h.1 h unregistered refl t
       by putting.NoMetadata h t = leaves putting.NoMetadata sending.NoMetadata 3 h.3 h no_metadata refl t
       by putting.Unverified h t = leaves putting.Unverified sending.Unverified 2 h.3 h unverified refl t
-      by (putting.OtherMetadata texts) h t = stops texts t.1
+      by (putting.OtherMetadata texts) h t = stops texts h.6 t.0 t.1 (ap {B = ServedState} (holding s) h.7)
       by (putting.Full needed free) h t = wants 6 needed free (inl refl) h.5 t
       by putting.Memory h t = wants 7 0 0 (inr (inl refl)) h.3 t
 
   forget_does : (id : BlobId) (r : Reply) (contents : Contents) → Forgets s.ledger.log s.shard.contents id r contents → IsReplyOutcome (Ok r) frames clash
       → EndsAsDeed digest s (forget id) frames clash (holding s contents)
-  forget_does id _ _ (forgotten may) told = does (record { said = line.Forget s.shard.index id forgetting.Done; acts = forgot id may; told = (Answer 0 0 0, refl, told.0); ledger = refl })
-  forget_does id _ _ (kept not) told = does (record { said = line.Forget s.shard.index id forgetting.Declined; acts = declined id not; told = (Answer 5 0 0, refl, told.0); ledger = refl })
+  forget_does id _ _ (forgotten may) told = does (record { said = line.Forget s.shard.index id forgetting.Done; acts = forgot id may; told = (Answer 0 0 0, refl, told.0); ledger = refl }) told.1
+  forget_does id _ _ (kept not) told = does (record { said = line.Forget s.shard.index id forgetting.Declined; acts = declined id not; told = (Answer 5 0 0, refl, told.0); ledger = refl }) told.1
 
-  claim_backed : (kind : Kind) (id : BlobId) (new : ServedState) → AnswersEntry (Vouched kind s id) s frames clash new → ClaimsBacked kind s id frames × (new.shard ≡ s.shard)
-  claim_backed kind id new (_, _, unbacked refusing.Unregistered h, told, is) = (inr (1, inl refl, told.0), ap (λ (t : ServedState). t.shard) is)
-  claim_backed kind id new (_, _, unbacked refusing.Declined h, told, is) = (inr (5, inr (inl refl), told.0), ap (λ (t : ServedState). t.shard) is)
-  claim_backed kind id new (_, _, unbacked refusing.Expires h, told, is) = (inr (8, inr (inr refl), told.0), ap (λ (t : ServedState). t.shard) is)
-  claim_backed kind id new (_, _, asked reply ledger vouches entered, told, is) = (inl vouches, ap (λ (t : ServedState). t.shard) is)
+  claim_backed : (kind : Kind) (id : BlobId) (new : ServedState) → AnswersEntry (Vouched kind s id) s frames clash new → ClaimsBacked kind s id frames new × (clash ≡ None)
+  claim_backed kind id new (_, _, unbacked refusing.Unregistered h, told, is) = (inr (1, inl refl, told.0, is), told.1)
+  claim_backed kind id new (_, _, unbacked refusing.Declined h, told, is) = (inr (5, inr (inl refl), told.0, is), told.1)
+  claim_backed kind id new (_, _, unbacked refusing.Expires h, told, is) = (inr (8, inr (inr refl), told.0, is), told.1)
+  claim_backed kind id new (_, _, asked answer ledger vouches entered, told, is) = 
+      (inl (vouches.0, vouches.1, (ap (λ (t : ServedState). t.shard) is, rw is (adds kind s.ledger s.shard.index id answer ledger entered))), told.1)
 
   serves_as : (frame : Frame) → read_of payload ≡ Ok frame → (new : ServedState) → AnswersRead digest may_want (Ok frame) s frames clash new → ServesAsShard digest s payload frame frames clash new
   serves_as (Metadata m) reads new h = put_does (Metadata m) reads tt new h

@@ -3,8 +3,9 @@ use Rattle.wal_network.proofs.Common.{◌≢◌, ◌≡◌, ℕ, zero, suc, ◌<
 use Rattle.wal_shape.specs.declared.part.Part.{Part}
 use Rattle.wal_event.specs.declared.line.Line.TheVariants as line
 use Rattle.wal_event.specs.declared.line.RecoverWord.TheVariants as recovering
+use Rattle.wal_event.specs.declared.line.ForgetWord.TheVariants as forgetting
 use Rattle.wal_protocol.proofs.Lookups.{parts_forgotten, Firmer, firmer_above, firmer_same, firmer_forgotten}
-use Rattle.wal_network.specs.Deeds.{Deed, forget, Acts, stored, missed, found, forgot, Done, last_held, ActsEach, KeepsNothing, KeepsSomething}
+use Rattle.wal_network.specs.Deeds.{Deed, Acts, stored, missed, found, forgot, Done, last_held, ActsEach, KeepsNothing, KeepsSomething}
 use Rattle.wal_network.specs.Network.{Spares}
 
 some_kept : (old new : Parts) (p : Part) → IsAbove old new → is_some (part_of old p) ≡ true → is_some (part_of new p) ≡ true
@@ -24,13 +25,13 @@ more_leaves r s old new Spared above sound = record {
 }
 
 module _ (r : Rules) (laws : Laws r) (log : Log) (s : ℕ) where
-  act_leaves : (old : Contents) (deed : Deed) (said : Line) (new : Contents) → Acts r log s old deed said new → Leaves r s old new (λ id. deed ≢ forget id)
+  act_leaves : (old : Contents) (deed : Deed) (said : Line) (new : Contents) → Acts r log s old deed said new → Leaves r s old new (λ id. said ≢ line.Forget s id forgetting.Done)
   act_leaves old _ _ new (stored bytes frame _ reads puts) =
       more_leaves r s old new _ (laws.put_adds log s old new frame PutAnswer.Stored puts) (laws.put_sound log s old new frame PutAnswer.Stored puts)
   act_leaves old _ _ new (found axis i heard word _ run keeps) =
       more_leaves r s old new _ (laws.recover_adds i s axis old new heard word run.recovers) (laws.recover_sound i s axis old new heard word run.recovers run.one_metadata)
   act_leaves old _ _ _ (forgot i may) = record {
-    holds_still = λ id other h. ⊎_elim (λ same. ap settled_by_slivers same ∙ h) (λ is. absurd (other (ap forget (sym is.0)))) (parts_forgotten old i id);
+    holds_still = λ id other h. ⊎_elim (λ same. ap settled_by_slivers same ∙ h) (λ is. absurd (other (ap (λ q. line.Forget s q forgetting.Done) (sym is.0)))) (parts_forgotten old i id);
     firmer = λ id. ⊎_elim (λ same. firmer_same _ _ same)
         (λ is. subst (Firmer (parts_at old id)) (sym is.1) (firmer_forgotten (parts_at old id) (ap (λ (q : BlobId). has_proof (parts_at old q)) is.0 ∙ may.proof)))
         (parts_forgotten old i id);
@@ -39,7 +40,7 @@ module _ (r : Rules) (laws : Laws r) (log : Log) (s : ℕ) where
   }
   act_leaves old deed said new act = record { holds_still = λ id spared h. h; firmer = λ id. firmer_same _ _ refl; sound = λ h. h }
 
-  pub each_leaves : (old : Contents) (dones : List Done) → ActsEach r log s old dones → Leaves r s old (last_held dones old) (λ id. Spares id dones)
+  pub each_leaves : (old : Contents) (dones : List Done) → ActsEach r log s old dones → Leaves r s old (last_held dones old) (λ id. Spares s id dones)
   each_leaves old [] acts = record { holds_still = λ id spared h. h; firmer = λ id. firmer_same _ _ refl; sound = λ h. h }
   each_leaves old (done ∷ more) acts =
       let one = act_leaves old done.deed done.said done.after acts.0 in

@@ -9,8 +9,8 @@ use Rattle.wal_epoch.specs.Committee.{is_carried}
 use Rattle.wal_ledger.specs.Answers.{MayRegister}
 use Rattle.wal_ledger.specs.Orderly.{IsOrderly}
 use Rattle.wal_ledger.proofs.HandoverEntries.{plain_stays, is_plain}
-use Rattle.wal_network.specs.Network.{Network, log_at, comes_with, leaves_with, applied, is_moved, Lands, IsHistory, ClaimLands, WasReady, ForNode}
-use Rattle.wal_network.specs.AsRun.{StandsFor, IsShownBy, HasFew, entry_event}
+use Rattle.wal_network.specs.Network.{Network, log_at, comes_with, leaves_with, applied, is_moved, Lands, IsHistory, ClaimLands, WasReady, ForNode, HasFew}
+use Rattle.wal_network.specs.AsRun.{StandsFor, IsShownBy, entry_event}
 use Rattle.wal_network.proofs.Walk.{orderly_at, f_at, turn_at, up, still_backed, still_ready, flag}
 
 -- the world takes the entry, and shows the next prefix

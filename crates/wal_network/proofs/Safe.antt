@@ -1,14 +1,20 @@
 -- Every history of a network is safe.
-use Rattle.wal_network.proofs.Common.{◌≡◌, ◌&&◌, ℕ, zero, suc, ◌≤◌, ◌<◌, ◌+◌, true, false, Bool, not, cond, Option, unwrap_or, sym, refl, ap, subst, arith, ⊎_elim, ◌⊎◌, inl, inr, ◌∙◌, cases_lt, and_parts, and_from, not-true, nat_le, BlobId, Log, Body, Contents, Parts, no_parts, parts_at, settled, reading, writing, is_moving, is_live, until_of, home_of, IsCertified, signers, signer_count, count_below, count_below-mono, count_below-some, quorum_size, Holds, Denies, entered, committee_size, among, Rules, Laws, AllSound, retained, empty_map, get-empty, id_cmp, begun, finished, Committee, World, Side, Now, Next, side_of, is_present, writing_side, held, settled_in, epoch_of, HasRefuters}
+use Rattle.wal_network.proofs.Common.{◌≡◌, ◌&&◌, ℕ, zero, suc, ◌≤◌, ◌<◌, ◌+◌, true, false, Bool, not, cond, Option, Some, unwrap_or, sym, refl, ap, subst, arith, ⊎_elim, ◌⊎◌, inl, inr, ◌∙◌, cases_lt, and_parts, and_from, not-true, nat_le, BlobId, Log, Body, Contents, Parts, no_parts, parts_at, settled, reading, writing, is_moving, is_live, until_of, home_of, IsCertified, signers, signer_count, count_below, count_below-mono, count_below-some, quorum_size, Holds, Denies, entered, committee_size, among, Rules, Laws, AllSound, retained, empty_map, get-empty, id_cmp, begun, finished, Committee, World, Side, Now, Next, side_of, is_present, writing_side, held, settled_in, epoch_of, HasRefuters}
 use Rattle.std.proofs.lemmas.Bool.{eqb-false, leb-true, ltb-true}
-use Rattle.std.specs.Prelude.{nat_eq}
+use Rattle.std.specs.Prelude.{nat_eq, List, All}
+use Rattle.wal_evidence.specs.declared.evidence.Evidence.{Evidence}
+use Rattle.wal_evidence.specs.declared.evidence.Verdict.{Verdict}
+use Rattle.wal_event.specs.declared.line.ReadWord.{ReadWord}
+use Rattle.wal_protocol.specs.Step.{told_by}
+use Rattle.wal_protocol.specs.Total.{Possible, AreBytes}
+use Rattle.wal_protocol.proofs.EveryWord.{surely, then, by_cases}
 use Rattle.wal_ledger.proofs.HandoverEntries.{is_plain, plain_stays}
 use Rattle.wal_protocol.proofs.Lookups.{held_is}
 use Rattle.wal_protocol.proofs.Entered.{writing_present}
 use Rattle.wal_protocol.proofs.Safety.{home_present, kept_home, refuted}
-use Rattle.wal_network.specs.Network.{Network, log_at, comes_with, leaves_with, IsHistory, applied, is_moved, Lands, IsThere, serves, writes}
+use Rattle.wal_network.specs.Network.{Network, log_at, comes_with, leaves_with, IsHistory, applied, is_moved, Lands, IsThere, serves, writes, HasFew}
 use Rattle.wal_network.specs.AsRun.{StandsFor}
-use Rattle.wal_network.specs.Promised.{holds_after, epoch_in, home_epoch, settled_at, KeepsCertified, CompletesReads, RecoversCommitted, RefutesInvalid, IsSafeNetwork}
+use Rattle.wal_network.specs.Promised.{IsHeardOf, holds_after, epoch_in, home_epoch, settled_at, KeepsCertified, CompletesReads, RecoversCommitted, RefutesInvalid, IsSafeNetwork}
 use Rattle.wal_network.proofs.Keeping.{each_commits}
 use Rattle.wal_network.proofs.Walk.{flag, bounds, there_of, orderly_at, opens_at, leaves_at, leaves_first, settled_later}
 use Rattle.wal_network.proofs.Whole.{shown_at}
@@ -16,7 +22,12 @@ use Rattle.wal_network.proofs.Whole.{shown_at}
 more_than : {f g : ℕ} (p : ℕ → Bool) → f ≡ g → f + 1 ≤ count_below (committee_size f) p → g + 1 ≤ count_below (committee_size g) p
 more_than p same = subst (λ (n : ℕ). n + 1 ≤ count_below (committee_size n) p) same
 
-module _ (r : Rules) (laws : Laws r) (network : Network) (size : ℕ) (history : IsHistory r network size) where
+-- payloads of bytes in which no two metadata differ have a result
+abbrev pub HaveResults : Rules → Type 0
+HaveResults r =
+    (id : BlobId) (payloads : List (List ℕ)) → All AreBytes payloads → (r.HasTwoMetadata id payloads → ⊥) → Possible ((word : ReadWord) × (evidence : Option Evidence) × r.Reads id payloads word evidence)
+
+module _ (r : Rules) (laws : Laws r) (reads : HaveResults r) (network : Network) (size : ℕ) (history : IsHistory r network size) where
   -- ---- what is held is sound
 
   empty_sound : (s : ℕ) → AllSound r s empty_map
@@ -119,8 +130,10 @@ module _ (r : Rules) (laws : Laws r) (network : Network) (size : ℕ) (history :
           let one = count_below-some (committee_size log.f) (signers log id Holds (writing log)) (omega (arith, many)) in
           opens_at r laws network size history at le id Holds one.0 certified.live one.2
 
-  complete : CompletesReads r network size
-  complete from id payloads word evidence le few certified heard read =
+  completes_each : (from : ℕ) (id : BlobId) (payloads : List (List ℕ)) → from ≤ size → HasFew network from → IsCertified (log_at network from) id
+      → ((s : ℕ) → s < committee_size r.f → among (network.faulty (home_epoch (log_at network from) id)) s ≡ false → IsHeardOf r network size from (home_epoch (log_at network from) id) id payloads s)
+      → (word : ReadWord) (evidence : Option Evidence) → r.Reads id payloads word evidence → (told : Verdict) × (told_by word ≡ Some told)
+  completes_each from id payloads le few certified heard word evidence read =
       let e = home_epoch (log_at network from) id in
       laws.read_completes id payloads word evidence (settled_at network from e id) (more_than (settled_at network from e id) history.sized (kept from id le few certified))
       (λ s lt h.
@@ -134,6 +147,15 @@ module _ (r : Rules) (laws : Laws r) (network : Network) (size : ℕ) (history :
           replied = one.said;
         },
       )) read
+
+  complete : CompletesReads r network size
+  complete from id payloads le few certified heard =
+      let each = completes_each from id payloads le few certified heard in
+      record {
+        each = each;
+        some = λ are. by_cases (r.HasTwoMetadata id payloads) (λ two. surely (inl two))
+            (λ one. then (reads id payloads are one) (λ read. let verdict = each read.0 read.1 read.2 in surely (inr (read.0, read.1, verdict.0, read.2, verdict.1))));
+      }
 
   just : RefutesInvalid r network size
   just at id le few live quorum =

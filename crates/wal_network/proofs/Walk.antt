@@ -143,13 +143,13 @@ module _ (r : Rules) (laws : Laws r) (network : Network) (size : ℕ) (history :
 
   -- what the first deeds of a correct shard at a prefix leave, and what all of them do
   pub leaves_first : (at k e s : ℕ) → at ≤ size → IsThere (log_at network at) e → s < committee_size r.f → among (network.faulty e) s ≡ false
-      → Leaves r s (comes_with network at e s) (holds_after network at k e s) (λ id. Spares id (take k (network.deeds at e s)))
+      → Leaves r s (comes_with network at e s) (holds_after network at k e s) (λ id. Spares s id (take k (network.deeds at e s)))
   leaves_first at k e s most there lt correct =
       each_leaves r laws (log_at network at) s (comes_with network at e s) (take k (network.deeds at e s))
       (acts_first r laws (log_at network at) s (comes_with network at e s) (network.deeds at e s) k (history.acts at e s most there lt correct))
 
   pub leaves_at : (at e s : ℕ) → at ≤ size → IsThere (log_at network at) e → s < committee_size r.f → among (network.faulty e) s ≡ false
-      → Leaves r s (comes_with network at e s) (leaves_with network at e s) (λ id. Spares id (network.deeds at e s))
+      → Leaves r s (comes_with network at e s) (leaves_with network at e s) (λ id. Spares s id (network.deeds at e s))
   leaves_at at e s most there lt correct =
       each_leaves r laws (log_at network at) s (comes_with network at e s) (network.deeds at e s) (history.acts at e s most there lt correct)
 

@@ -2,8 +2,8 @@
 use Rattle.wal_network.proofs.Common.{Body, Log, empty_committee, subst, length, reading, IsEventWithin, Facts, nat_le, ◌≡◌, ℕ, zero, suc, ◌≤◌, List, [], ◌∷◌, ◌++◌, Event, Line, true, false, sym, refl, ap, arith, ◌∙◌, Side, Now, Next, World, side_of, is_present, epoch_of, Rules, Laws, is_moving, committee_size, empty_map, get_or-map-range_with_len, length-map-range_with_len, true≢false}
 use Rattle.std.proofs.lemmas.Bool.{le-leb}
 use Rattle.wal_ledger.specs.declared.entry.Entry.{Entry}
-use Rattle.wal_network.specs.Network.{Network, log_at, leaves_with, comes_with, IsHistory, Lands, schedule_of}
-use Rattle.wal_network.specs.AsRun.{HasFew, Told, IsTold, prefix_told, entry_event, StandsFor, IsShownBy, first_of, IsRunOfWorld}
+use Rattle.wal_network.specs.Network.{Network, log_at, leaves_with, comes_with, IsHistory, Lands, schedule_of, HasFew}
+use Rattle.wal_network.specs.AsRun.{Told, IsTold, prefix_told, entry_event, StandsFor, IsShownBy, first_of, IsRunOfWorld}
 use Rattle.wal_network.proofs.Leading.{Way, leads_on, leads_nowhere}
 use Rattle.wal_protocol.proofs.Safety.{facts_first}
 use Rattle.wal_network.proofs.Prefix.{prefix_leads}

@@ -20,13 +20,7 @@ use Rattle.wal_protocol.specs.State.{nobody}
 use Rattle.wal_protocol.specs.Run.{Runs, GoesOn, empty_committee}
 use Rattle.wal_protocol.specs.Facts.{Facts}
 use Rattle.wal_network.specs.Deeds.{Done, deed_event}
-use Rattle.wal_network.specs.Network.{Network, log_at, leaves_with}
-
--- each committee so far has had at most f faulty shards
-abbrev pub HasFew : Network → ℕ → Type 0
-HasFew network at =
-    (epoch : ℕ) → network.start.first ≤ epoch → epoch ≤ writing (log_at network at)
-    → length (network.faulty epoch) ≤ network.start.f
+use Rattle.wal_network.specs.Network.{Network, log_at, leaves_with, HasFew}
 
 -- the committee of an epoch is one of the world: it has these faulty shards, and its correct ones
 -- hold this

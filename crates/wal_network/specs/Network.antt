@@ -1,6 +1,6 @@
 -- A network: one ledger, and what each correct shard did at each prefix of it.
 use Rattle.std.specs.Prelude.{◌≡◌, ◌≢◌, ℕ, zero, suc, ◌+◌, ◌<◌, ◌≤◌, Bool, true, false, cond}
-use Rattle.std.specs.Prelude.{nat_eq, List, [], ◌∷◌, IsTrue}
+use Rattle.std.specs.Prelude.{nat_eq, List, [], ◌∷◌, length, IsTrue}
 use Rattle.std.specs.FinMap as finmap
 use Rattle.wal_shape.specs.declared.metadata.BlobId.{BlobId}
 use Rattle.wal_shape.specs.declared.axis.Side.TheVariants.{Now, Next}
@@ -8,6 +8,8 @@ use Rattle.wal_shape.specs.declared.shape.Format.{Format}
 use Rattle.wal_shape.specs.Owners.{among, is_committee, is_ascending}
 use Rattle.wal_event.specs.declared.event.Schedule.{Schedule}
 use Rattle.wal_event.specs.Event.{IsSchedule}
+use Rattle.wal_event.specs.declared.line.Line.TheVariants as line
+use Rattle.wal_event.specs.declared.line.ForgetWord.TheVariants as forgetting
 use Rattle.wal_ledger.specs.declared.entry.Body.{Body}
 use Rattle.wal_ledger.specs.declared.entry.Body.TheVariants.{Register, Ack, Attest, Begin, Ready}
 use Rattle.wal_ledger.specs.declared.entry.Body.TheVariants.{Finish}
@@ -22,11 +24,12 @@ use Rattle.wal_shard.specs.Holding.{settled}
 use Rattle.wal_shard.specs.Vouching.{backs, without_dead}
 use Rattle.wal_epoch.specs.Committee.{is_carried}
 use Rattle.wal_protocol.specs.Rules.{Rules}
-use Rattle.wal_network.specs.Deeds.{forget, Done, last_held, ActsEach}
+use Rattle.wal_network.specs.Deeds.{Done, last_held, ActsEach}
 
 -- the ledger's start, and the entries that count, by their place; the faulty shards of each epoch's
--- committee, and those that stay when it is formed; and what each of its shards did once it had
--- applied so many entries: the shard's own list, cut where it applied the next one
+-- committee, and those that stay when it is formed; and the deeds of each of its shards that are
+-- spoken of, once it had applied so many entries: the shard's own list, cut where it applied the
+-- next one
 pub record Network : Type 0 where
   pub format : Format
   pub start : Log
@@ -39,6 +42,12 @@ pub record Network : Type 0 where
 abbrev pub log_at : Network → ℕ → Log
 log_at network zero = network.start
 log_at network (suc at) = entered (log_at network at) (network.body at)
+
+-- each committee so far has had at most f faulty shards
+abbrev pub HasFew : Network → ℕ → Type 0
+HasFew network at =
+    (epoch : ℕ) → network.start.first ≤ epoch → epoch ≤ writing (log_at network at)
+    → length (network.faulty epoch) ≤ network.start.f
 
 -- whether a shard is carried to the committee that a Begin of these owners forms
 abbrev pub is_moved : Network → ℕ → List ℕ → ℕ → Bool
@@ -76,14 +85,15 @@ pub data IsThere (log : Log) : ℕ → Type 0 where
   serves : IsThere log (reading log)
   writes : IsThere log (writing log)
 
--- none of these deeds forgets the blob
-abbrev pub Spares : BlobId → List Done → Type 0
-Spares id [] = Unit {0}
-Spares id (done ∷ more) = (done.deed ≢ forget id) × Spares id more
+-- with none of these deeds did the shard forget the blob; it may have declined to
+abbrev pub Spares : ℕ → BlobId → List Done → Type 0
+Spares shard id [] = Unit {0}
+Spares shard id (done ∷ more) =
+    (done.said ≢ line.Forget shard id forgetting.Done) × Spares shard id more
 
 -- A CLAIM THAT LANDS is backed by a shard: at an earlier or equal prefix of the same writing epoch
 -- the blob was open and the shard held what backs the claim; and if the claim is that it holds the
--- blob, it has not forgotten it since
+-- blob, it has not forgotten it since, until it applies the entry
 pub record Vouched (network : Network) (to : ℕ) (kind : Kind) (id : BlobId) (shard : ℕ)
     : Type 0 where
   pub from : ℕ
@@ -93,7 +103,7 @@ pub record Vouched (network : Network) (to : ℕ) (kind : Kind) (id : BlobId) (s
   pub held : backs kind
       (parts_at (leaves_with network from (writing (log_at network to)) shard) id) ≡ true
   pub spared : kind ≡ Holds → (at : ℕ) → from < at → at ≤ to
-      → Spares id (network.deeds at (writing (log_at network to)) shard)
+      → Spares shard id (network.deeds at (writing (log_at network to)) shard)
 
 -- READINESS THAT LANDS is backed by a shard: at an earlier or equal prefix of the same change of
 -- the epoch it was settled for all that had to be held

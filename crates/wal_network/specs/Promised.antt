@@ -1,5 +1,5 @@
 -- What is promised of every history of a network, in the network's own words.
-use Rattle.std.specs.Prelude.{◌≡◌, ◌≢◌, ℕ, ◌+◌, ◌<◌, ◌≤◌, Bool, true, false, not, ◌&&◌}
+use Rattle.std.specs.Prelude.{◌≡◌, ◌≢◌, ◌⊎◌, ℕ, ◌+◌, ◌<◌, ◌≤◌, Bool, true, false, not, ◌&&◌}
 use Rattle.std.specs.Prelude.{List, [], length, take, Option, Some, All, Contains}
 use Rattle.wal_shape.specs.declared.metadata.BlobId.{BlobId}
 use Rattle.wal_shape.specs.declared.axis.Axis.{Axis}
@@ -7,10 +7,11 @@ use Rattle.wal_shape.specs.declared.axis.Side.{Side}
 use Rattle.wal_shape.specs.declared.axis.Side.TheVariants.{Now, Next}
 use Rattle.wal_shape.specs.declared.shape.Format.{Format}
 use Rattle.wal_shape.specs.Owners.{among}
-use Rattle.wal_shape.specs.Shape.{most_bytes}
+use Rattle.wal_shape.specs.Shape.{BlobShape, most_bytes}
 use Rattle.wal_evidence.specs.declared.evidence.Evidence.{Evidence}
 use Rattle.wal_evidence.specs.declared.evidence.Verdict.{Verdict}
-use Rattle.wal_evidence.specs.declared.evidence.Verdict.TheVariants as verdict
+use Rattle.wal_extract.specs.Blobs.{HaveOneIdentifier}
+use Rattle.wal_extract.specs.Contrary.{AreContrary, ContradictsBlob}
 use Rattle.wal_frame.specs.Frame.{Frame}
 use Rattle.wal_event.specs.declared.line.Line.TheVariants as line
 use Rattle.wal_event.specs.declared.line.ReadWord.{ReadWord}
@@ -21,12 +22,15 @@ use Rattle.wal_ledger.specs.Ledger.{Log, reading, writing, is_live, IsCertified,
 use Rattle.wal_ledger.specs.Ledger.{signer_count}
 use Rattle.wal_store.specs.Contents.{Contents, parts_at}
 use Rattle.wal_shard.specs.Holding.{settled}
+use Rattle.wal_protocol.specs.declared.first.First.{First}
+use Rattle.wal_protocol.specs.declared.first.First.TheVariants.{Judged, Written}
 use Rattle.wal_protocol.specs.Rules.{Rules}
+use Rattle.wal_protocol.specs.State.{verdict_of}
 use Rattle.wal_protocol.specs.Step.{told_by}
 use Rattle.wal_protocol.specs.Total.{Possible, AreBytes}
+use Rattle.wal_theorem.specs.Instance.{rules_of}
 use Rattle.wal_network.specs.Deeds.{Done, last_held}
-use Rattle.wal_network.specs.Network.{Network, log_at, comes_with, IsThere, IsHistory}
-use Rattle.wal_network.specs.AsRun.{HasFew}
+use Rattle.wal_network.specs.Network.{Network, log_at, comes_with, IsThere, IsHistory, HasFew}
 
 -- the epoch of the committee of a side
 abbrev pub epoch_in : Log → Side → ℕ
@@ -51,7 +55,7 @@ settled_at network at epoch id shard =
 
 -- KEPT: while each committee so far has had at most f faulty shards, more than f correct shards of
 -- the committee that answers for a certified blob are settled for it, as soon as they have applied
--- the prefix at which it is certified, and so later there
+-- the prefix at which it is certified
 abbrev pub KeepsCertified : Network → ℕ → Type 0
 KeepsCertified network size =
     (at : ℕ) (id : BlobId) → at ≤ size → HasFew network at → IsCertified (log_at network at) id
@@ -73,20 +77,32 @@ pub record IsHeardOf (rules : Rules) (network : Network) (size from epoch : ℕ)
       (rules.read_reply id shard (parts_at (holds_after network at count epoch shard) id)) payload
       → Contains payloads payload
 
+-- a read that ends with bytes or a rejection
+abbrev pub HasVerdict : Rules → BlobId → List (List ℕ) → Type 0
+HasVerdict rules id payloads =
+    (word : ReadWord) × (evidence : Option Evidence) × (told : Verdict)
+    × rules.Reads id payloads word evidence × (told_by word ≡ Some told)
+
+-- a read of these payloads completes: a result that it has is bytes or a rejection, and it is
+-- impossible that it has none, unless two metadata of the blob differ
+pub record IsCompleteRead (rules : Rules) (id : BlobId) (payloads : List (List ℕ)) : Type 0 where
+  pub each : (word : ReadWord) (evidence : Option Evidence)
+      → rules.Reads id payloads word evidence → (told : Verdict) × (told_by word ≡ Some told)
+  pub some : All AreBytes payloads
+      → Possible (rules.HasTwoMetadata id payloads ⊎ HasVerdict rules id payloads)
+
 -- COMPLETE: while each committee up to a prefix has had at most f faulty shards, a read of a blob
--- that is certified there ends with bytes or a rejection, if it has heard of each correct shard of
--- the committee that then answered for the blob a reply that was true there or later, whenever that
--- was, and whatever else it heard
+-- that is certified there completes, if it has heard of each correct shard of the committee that
+-- then answered for the blob a reply that was true there or later, whenever that was, and whatever
+-- else it heard
 abbrev pub CompletesReads : Rules → Network → ℕ → Type 0
 CompletesReads rules network size =
-    (from : ℕ) (id : BlobId) (payloads : List (List ℕ)) (word : ReadWord)
-    (evidence : Option Evidence) → from ≤ size → HasFew network from
+    (from : ℕ) (id : BlobId) (payloads : List (List ℕ)) → from ≤ size → HasFew network from
     → IsCertified (log_at network from) id
     → ((shard : ℕ) → shard < committee_size rules.f
     → among (network.faulty (home_epoch (log_at network from) id)) shard ≡ false
     → IsHeardOf rules network size from (home_epoch (log_at network from) id) id payloads shard)
-    → rules.Reads id payloads word evidence
-    → (told : Verdict) × (told_by word ≡ Some told)
+    → IsCompleteRead rules id payloads
 
 -- COMMITTED: a correct shard that recovered a sliver holds a metadata that the identifier commits,
 -- and by it the bytes are its sliver, for any number of faulty shards
@@ -120,25 +136,41 @@ pub record IsSafeNetwork (rules : Rules) (network : Network) (size : ℕ) : Type
   pub committed : RecoversCommitted rules network size
   pub just : RefutesInvalid rules network size
 
--- a completed answer for a blob: of a read of payloads that were heard anywhere and at any time, or
--- of an honest write
-pub data Answers (rules : Rules) (id : BlobId) : Verdict → Type 0 where
+-- a completed answer for a blob, by what it rests on: of a read of payloads that were heard
+-- anywhere and at any time, or of an honest write
+pub data Answers (rules : Rules) (id : BlobId) : First → Type 0 where
   read : (payloads : List (List ℕ)) (word : ReadWord) (evidence : Evidence) (told : Verdict)
-      → All AreBytes payloads → rules.Reads id payloads word (Some evidence)
-      → told_by word ≡ Some told → Answers rules id told
+      → rules.Reads id payloads word (Some evidence) → told_by word ≡ Some told
+      → Answers rules id (Judged evidence told)
   wrote : (format : Format) (blob : List ℕ) (message : ℕ → List Frame)
-      → rules.IsMessage format blob id message → Answers rules id (verdict.Bytes blob)
+      → rules.IsMessage format blob id message → Answers rules id (Written blob)
 
--- READERS AGREE: of two completed answers for a blob that differ, it is impossible that no two
--- texts have one digest. This holds for any number of faulty shards, and needs no ledger
-abbrev pub AnswersAgree : Rules → Type 0
-AnswersAgree rules =
-    (id : BlobId) (told other : Verdict) → Answers rules id told → Answers rules id other
-    → told ≢ other
-    → Possible ((left : List ℕ) × (right : List ℕ) × rules.IsCollision left right)
+-- the shape of a blob
+abbrev pub shape_in : Format → ℕ → List ℕ → BlobShape
+shape_in format f blob = record { format = format; f = f; length = length blob }
 
--- A BLOB CAN BE CERTIFIED: there is a history in which no shard is faulty, and a correct node, having
--- taken an honest writer's message for each of its shards, claims a blob and so certifies it
+-- two answers contradict each other: what they rest on is what `evidences`, `blob_and_evidence` and
+-- `blobs` of wal_extract take, and make two texts with one digest of
+abbrev pub Contradict : (List ℕ → List ℕ) → ℕ → First → First → Type 0
+Contradict digest f (Judged one told) (Judged other said) = AreContrary digest one other
+Contradict digest f (Judged one told) (Written blob) =
+    (format : Format) × ContradictsBlob digest (shape_in format f blob) blob one
+Contradict digest f (Written blob) (Judged other said) =
+    (format : Format) × ContradictsBlob digest (shape_in format f blob) blob other
+Contradict digest f (Written blob) (Written other) =
+    (format : Format) × (next : Format) × (blob ≢ other)
+    × HaveOneIdentifier digest (shape_in format f blob) blob (shape_in next f other) other
+
+-- READERS AGREE: of two completed answers for a blob that differ, what they rest on contradicts
+-- itself. This holds for any number of faulty shards, and needs no ledger
+abbrev pub AnswersAgree : (List ℕ → List ℕ) → ℕ → Type 0
+AnswersAgree digest f =
+    (id : BlobId) (one other : First) → Answers (rules_of digest f) id one
+    → Answers (rules_of digest f) id other → verdict_of one ≢ verdict_of other
+    → Contradict digest f one other
+
+-- A BLOB CAN BE CERTIFIED: there is a history in which no shard is faulty, and a blob is certified
+-- by the identifier that an honest writer's message has
 abbrev pub CanCertify : Rules → Type 0
 CanCertify rules =
     (format : Format) (blob : List ℕ) → length blob ≤ most_bytes → AreBytes blob

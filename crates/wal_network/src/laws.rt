@@ -21,13 +21,14 @@ pub fn every_network<H: Hash32>()
 {}
 
 /// Completed answers for one blob, of reads of whatever was heard anywhere and of honest writes,
-/// agree, or it is impossible that no two texts have one digest.
+/// agree, or what they rest on contradicts itself: it is what `evidences`, `blob_and_evidence` and
+/// `blobs` of `wal_extract` take, and make two texts with one digest of.
 pub fn every_answer<H: Hash32>()
-    ensures agree { (f : ℕ) → f ≤ 333 → AnswersAgree (rules_of H.digest f) }
+    ensures agree { (f : ℕ) → AnswersAgree H.digest f }
 {}
 
-/// Each blob has a history in which it is certified and no shard is faulty: so what is said of every
-/// history is not said of none, nor only of those in which nothing is claimed.
+/// Each blob has a history in which it is certified and no shard is faulty: so what is said of the
+/// certified blobs of every history is not said of none.
 pub fn every_blob<H: Hash32>()
     ensures certified { (f : ℕ) → 1 ≤ f → f ≤ 333 → CanCertify (rules_of H.digest f) }
 {}
