@@ -1,7 +1,12 @@
 -- Entries change the records and the context as the definitions say.
-use Rattle.std.proofs.Common.{◌≡◌, ℕ, zero, suc, ◌+◌, ◌<◌, List, [], ◌∷◌, ◌++◌, length, take, map, set, get_or, refl, ap, sym, ◌∙◌, arith}
+use Rattle.std.proofs.Common.{◌≡◌, ℕ, zero, suc, ◌+◌, ◌<◌, ◌≤◌, true, subst, List, [], ◌∷◌, ◌++◌, length, take, map, set, get_or, refl, ap, sym, ◌∙◌, arith}
 use Rattle.std.proofs.lemmas.List.{length-append}
 use Rattle.std.proofs.lemmas.List.Sums.{fold_more}
+use Rattle.wal_shape.specs.Owners.{are_owners}
+use Rattle.wal_ledger.specs.Shards.{committee_size}
+use Rattle.wal_record.specs.declared.context.Epoch.{Epoch}
+use Rattle.wal_record.specs.Context.{Context, writes, writers}
+use Rattle.wal_record.specs.Told.{IsFit, context_told}
 use Rattle.wal_follow.specs.declared.item.Item.{Item}
 use Rattle.wal_follow.specs.declared.outcome.Outcome.{Outcome}
 use Rattle.wal_follow.specs.Enter.{Kept, entered, entered_next, entered_all}
@@ -10,6 +15,14 @@ pub map_set : {A B : Type 0} (f : A → B) (xs : List A) (i : ℕ) (x : A) → m
 map_set f [] i x = refl
 map_set f (y ∷ xs) zero x = refl
 map_set f (y ∷ xs) (suc i) x = ap (λ l. f y ∷ l) (map_set f xs i x)
+
+-- an epoch with a context is as fit as that is
+pub fit_of : (epoch : Epoch) (context : Context) → context_told epoch ≡ context → context.f ≤ 333 → writes context ≤ 65535 → are_owners (committee_size context.f) (writers context) ≡ true → IsFit epoch
+fit_of epoch context is faults epochs owned = record {
+  faults = subst (λ (x : Context). x.f ≤ 333) (sym is) faults;
+  epochs = subst (λ (x : Context). writes x ≤ 65535) (sym is) epochs;
+  owned = subst (λ (x : Context). are_owners (committee_size x.f) (writers x) ≡ true) (sym is) owned;
+}
 
 -- one more entry
 pub entered_more : (start old new : Kept) (items : List Item) (i : ℕ) (item : Item) (outcomes more : List Outcome) (outcome : Outcome)

@@ -1,10 +1,12 @@
 -- Entries one after the other, by the context and the records of the blobs that they name.
-use Rattle.std.specs.Prelude.{ℕ, ◌+◌, cond, nat_lt, List, [], ◌∷◌, ◌++◌, fold}
+use Rattle.std.specs.Prelude.{◌≡◌, ℕ, ◌+◌, ◌<◌, ◌≤◌, Bool, true, false, cond, nat_lt}
+use Rattle.std.specs.Prelude.{⊤, List, [], ◌∷◌, ◌++◌, fold}
 use Rattle.std.specs.Prelude.{slice_index_or, slice_set}
 use Rattle.wal_ledger.specs.declared.entry.Body.TheVariants as saying
 use Rattle.wal_ledger.specs.declared.entry.Kind.{Kind}
 use Rattle.wal_ledger.specs.declared.entry.Kind.TheVariants.{Holds, Denies}
 use Rattle.wal_ledger.specs.Shards.{quorum_size}
+use Rattle.wal_shape.specs.Owners.{are_owners}
 use Rattle.wal_record.specs.Record.{BlobRecord, no_record}
 use Rattle.wal_record.specs.Context.{Context, writes, turn}
 use Rattle.wal_record.specs.Questions.{register, claim, ready, ready_count}
@@ -18,6 +20,21 @@ use Rattle.wal_follow.specs.Outcomes.{registered, claimed, readied}
 pub record Kept : Type 0 where
   pub context : Context
   pub blobs : List BlobRecord
+
+-- an entry is of a committee of n and of so many blobs: its shard, or the owners that it brings, are
+-- of the committee, its blob has a place, and it registers until at most the epoch after the last
+abbrev pub IsOf : ℕ → ℕ → Item → Type 0
+IsOf n count (Register blob until) = (blob < count) × (until ≤ 65536)
+IsOf n count (Ack blob shard) = (blob < count) × (shard < n)
+IsOf n count (Attest blob shard) = (blob < count) × (shard < n)
+IsOf n count (Ready shard) = shard < n
+IsOf n count (Begin owners) = are_owners n owners ≡ true
+IsOf n count Finish = ⊤
+
+-- whether an entry begins a change of the epoch
+abbrev pub begins : Item → Bool
+begins (Begin owners) = true
+begins _ = false
 
 -- the record at a place, or that of a blob without entries
 abbrev pub blob_at : List BlobRecord → ℕ → BlobRecord

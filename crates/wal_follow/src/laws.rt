@@ -1,19 +1,20 @@
 //! What is kept follows the ledger.
 
-ghost use Rattle.std.specs.Prelude.{◌≡◌, List, true};
+ghost use Rattle.std.specs.Prelude.{ℕ, ◌<◌, List, length};
 ghost use Rattle.wal_shape.specs.declared.metadata.BlobId.{BlobId};
 ghost use Rattle.wal_ledger.specs.declared.entry.Body.{Body};
 ghost use Rattle.wal_ledger.specs.Kept.{IsLawful};
-ghost use Rattle.wal_ledger.specs.Ledger.{Log};
+ghost use Rattle.wal_ledger.specs.Ledger.{LedgerState};
 ghost use Rattle.wal_ledger.specs.Shards.{committee_size};
 ghost use Rattle.wal_follow.specs.declared.item.Item.{Item};
-ghost use Rattle.wal_follow.specs.Enter.{entered};
-ghost use Rattle.wal_follow.specs.Ledger.{AreApart, KeepsUp, Says, is_of, kept_of};
+ghost use Rattle.wal_follow.specs.Enter.{IsOf, entered};
+ghost use Rattle.wal_follow.specs.Ledger.{AreApart, KeepsUp, Says, kept_of};
 
-/// Where the context and the records are those of a ledger, an entry makes of them those of the
-/// ledger after it: that has the entry, if its outcome says so, and else it is the same.
+/// Where the context and the records are those of a ledger that has room, an entry makes of them those
+/// of the ledger after it, and comes to what that ledger answers.
 pub fn keeps_up()
-    ensures { (ids : List BlobId) (log : Log) (item : Item) (body : Body) → IsLawful log
-        → AreApart ids → Says ids item body → is_of (committee_size log.f) item ≡ true
-        → KeepsUp ids log body (entered (kept_of ids log) item) }
+    ensures { (ids : List BlobId) (old : LedgerState) (item : Item) (body : Body)
+        → IsLawful old.log → 0 < old.spare → AreApart ids → Says ids item body
+        → IsOf (committee_size old.log.f) (length ids) item
+        → KeepsUp ids old body (entered (kept_of ids old.log) item) }
 {}

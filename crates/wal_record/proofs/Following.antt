@@ -32,7 +32,7 @@ begins log (Ready s) h is = absurd (false≢true is)
 begins log Finish h is = absurd (false≢true is)
 
 ends : (log : Log) (body : Body) → takes (context_of log) body ≡ true → is_finish body ≡ true → is_moving log ≡ true
-ends log Finish h is = h
+ends log Finish h is = (and_parts (is_moving log) _ h).0
 ends log (Begin owners) h is = absurd (false≢true is)
 ends log (Register i until) h is = absurd (false≢true is)
 ends log (Ack s i) h is = absurd (false≢true is)

@@ -123,9 +123,9 @@ pub lawful_kept : (log : Log) (b : Body) → IsLawful log → takes (context_of 
 lawful_kept log (Register i until) lawful h = lawful_plain log (Register i until) lawful refl tt
 lawful_kept log (Ack s i) lawful h = lawful_plain log (Ack s i) lawful refl (ltb-true s (committee_size log.f) h)
 lawful_kept log (Attest s i) lawful h = lawful_plain log (Attest s i) lawful refl (ltb-true s (committee_size log.f) h)
-lawful_kept log (Ready s) lawful h = lawful_plain log (Ready s) lawful refl (ltb-true s (committee_size log.f) h)
+lawful_kept log (Ready s) lawful h = lawful_plain log (Ready s) lawful refl (ltb-true s (committee_size log.f) (and_parts (is_moving log) _ h).1)
 lawful_kept log (Begin owners) lawful h =
     let parts = and_parts (not (is_moving log)) (nat_lt (reading log) 65535 && are_owners (committee_size log.f) owners) h in
     let rest = and_parts (nat_lt (reading log) 65535) (are_owners (committee_size log.f) owners) parts.1 in
     lawful_begin log owners lawful (not-true (is_moving log) parts.0) (ltb-true (reading log) 65535 rest.0) rest.1
-lawful_kept log Finish lawful h = lawful_finish log lawful h
+lawful_kept log Finish lawful h = lawful_finish log lawful (and_parts (is_moving log) _ h).0

@@ -51,7 +51,8 @@ first_quorum f votes = or_else votes.earlier (reached f votes.epoch votes.signed
 abbrev pub signed_in : Votes → ℕ → (ℕ → Bool)
 signed_in votes epoch shard = nat_eq votes.epoch epoch && votes.signed shard
 
--- the votes with this epoch, which is not before the last one, as the last
+-- the votes with this epoch as the last one: of the votes before, what the epoch before it and the
+-- first quorum ask for
 abbrev pub turned : ℕ → ℕ → Votes → Votes
 turned f epoch votes = record {
   epoch = epoch;

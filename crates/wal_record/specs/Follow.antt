@@ -1,5 +1,6 @@
 -- Entries one after the other.
-use Rattle.std.specs.Prelude.{◌≡◌, ◌<◌, ◌⊎◌, Bool, true, false, not, ◌&&◌, cond, nat_lt, List, [], ◌∷◌}
+use Rattle.std.specs.Prelude.{◌≡◌, ◌<◌, ◌⊎◌, Bool, true, false, not, ◌&&◌, cond, nat_lt, nat_le}
+use Rattle.std.specs.Prelude.{List, [], ◌∷◌}
 use Rattle.wal_shape.specs.declared.metadata.BlobId.{BlobId}
 use Rattle.wal_ledger.specs.declared.entry.Body.{Body}
 use Rattle.wal_ledger.specs.declared.entry.Body.TheVariants.{Register, Ack, Attest, Ready, Begin, Finish}
@@ -7,13 +8,13 @@ use Rattle.wal_ledger.specs.declared.entry.Kind.TheVariants.{Holds, Denies}
 use Rattle.wal_ledger.specs.Answers.{Registers, Acks, Attests}
 use Rattle.wal_ledger.specs.Kept.{IsLawful}
 use Rattle.wal_ledger.specs.Ledger.{Log, LedgerState, names}
-use Rattle.wal_ledger.specs.Shards.{committee_size}
+use Rattle.wal_ledger.specs.Shards.{committee_size, quorum_size}
 use Rattle.wal_shape.specs.Owners.{are_owners}
 use Rattle.wal_record.specs.declared.outcome.Answer.{Answer}
 use Rattle.wal_record.specs.declared.outcome.Answer.TheVariants as answering
 use Rattle.wal_record.specs.Record.{BlobRecord, blob_record, no_record}
 use Rattle.wal_record.specs.Context.{Context, context_of, step, turn}
-use Rattle.wal_record.specs.Questions.{register, claim, ack_word, attest_word, lives}
+use Rattle.wal_record.specs.Questions.{register, claim, ack_word, attest_word, lives, ready_count}
 use Rattle.wal_record.specs.Questions.{certificate_in, is_invalid_in, must_hold_in}
 
 -- what an entry is answered that names a blob, where there is room, and the blob's record after it
@@ -28,17 +29,18 @@ enter context blob (Attest shard id) =
     (answering.Attestation (attest_word told.0), told.1)
 enter context blob _ = (answering.Nothing, blob)
 
--- whether a ledger with this context takes an entry: shards are of the committee, and changes of the
--- epoch come one after the other
+-- whether a ledger with this context takes an entry: shards are of the committee, changes of the
+-- epoch come one after the other, and one ends once a quorum of the next committee is ready
 abbrev pub takes : Context → Body → Bool
 takes context (Register id until) = true
 takes context (Ack shard id) = nat_lt shard (committee_size context.f)
 takes context (Attest shard id) = nat_lt shard (committee_size context.f)
-takes context (Ready shard) = nat_lt shard (committee_size context.f)
+takes context (Ready shard) = context.moving && nat_lt shard (committee_size context.f)
 takes context (Begin owners) =
     not context.moving
     && (nat_lt context.epoch 65535 && are_owners (committee_size context.f) owners)
-takes context Finish = context.moving
+takes context Finish =
+    context.moving && nat_le (quorum_size context.f) (ready_count context)
 
 -- whether it takes entries one after the other
 abbrev pub takes_all : Context → List Body → Bool

@@ -1,12 +1,14 @@
 -- What the values of the program stand for.
-use Rattle.std.specs.Prelude.{◌≤◌, Option, Some, None}
+use Rattle.std.specs.Prelude.{◌≡◌, ◌≤◌, true, Option, Some, None}
+use Rattle.wal_shape.specs.Owners.{are_owners}
+use Rattle.wal_ledger.specs.Shards.{committee_size}
 use Rattle.wal_record.specs.declared.record.Quorum.{Quorum}
 use Rattle.wal_record.specs.declared.record.Tally.{Tally}
 use Rattle.wal_record.specs.declared.record.Row.{Row}
 use Rattle.wal_record.specs.declared.context.Epoch.{Epoch}
 use Rattle.wal_record.specs.Bits.{member}
 use Rattle.wal_record.specs.Record.{FirstQuorum, Votes, BlobRecord}
-use Rattle.wal_record.specs.Context.{Context}
+use Rattle.wal_record.specs.Context.{Context, writes, writers}
 
 -- the first quorum of a tally
 abbrev pub quorum_told : Option Quorum → Option FirstQuorum
@@ -42,7 +44,9 @@ context_told epoch = record {
   ready = member epoch.ready.words;
 }
 
--- numbers of a ledger
+-- numbers of a ledger: few faults, a writing epoch that there may be, and a node for each shard of
+-- its committee
 pub record IsFit (epoch : Epoch) : Type 0 where
   pub faults : epoch.f ≤ 333
-  pub epochs : epoch.epoch ≤ 65535
+  pub epochs : writes (context_told epoch) ≤ 65535
+  pub owned : are_owners (committee_size epoch.f) (writers (context_told epoch)) ≡ true

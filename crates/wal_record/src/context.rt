@@ -1,6 +1,8 @@
 //! What an entry is judged by beside the record of its blob.
 
-ghost use Rattle.std.specs.Prelude.{◌≡◌, ℕ, true};
+ghost use Rattle.std.specs.Prelude.{◌≡◌, ℕ, ◌<◌, ◌≤◌, true, false};
+ghost use Rattle.wal_ledger.specs.Shards.{committee_size, quorum_size};
+ghost use Rattle.wal_shape.specs.Owners.{are_owners};
 ghost use Rattle.wal_record.specs.Context.{turn, writers, writes};
 ghost use Rattle.wal_record.specs.Questions.{ready, ready_count};
 ghost use Rattle.wal_record.specs.Told.{IsFit, context_told};
@@ -59,7 +61,9 @@ impl Epoch {
 
     /// Enters that a shard of the next committee is ready.
     pub fn enter_ready(&mut self, shard: u16) -> ReadyAnswer
-        requires { IsFit self.old }
+        requires fit { IsFit self.old }
+        requires moving { self.old.moving ≡ true }
+        requires shard { shard < committee_size self.old.f }
         ensures { (result, context_told self.new) ≡ ready (context_told self.old) shard }
     {
         if self.ready.has(shard) {
@@ -73,6 +77,9 @@ impl Epoch {
 
     /// Begins to change the epoch, to a committee whose shards these nodes run.
     pub fn begin(&mut self, owners: Shards)
+        requires serving { self.old.moving ≡ false }
+        requires last { self.old.epoch < 65535 }
+        requires owners { are_owners (committee_size self.old.f) owners ≡ true }
         ensures { context_told self.new ≡ turn (context_told self.old) (Begin owners) }
     {
         self.moving = true;
@@ -84,6 +91,7 @@ impl Epoch {
     pub fn finish(&mut self, alloc: Global)
         requires fit { IsFit self.old }
         requires moving { self.old.moving ≡ true }
+        requires quorum { quorum_size self.old.f ≤ ready_count (context_told self.old) }
         ensures { context_told self.new ≡ turn (context_told self.old) Finish }
     {
         self.epoch = self.writing();

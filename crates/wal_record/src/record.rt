@@ -1,6 +1,8 @@
 //! The record of one blob.
 
-ghost use Rattle.std.specs.Prelude.{◌≡◌, ℕ, ◌≤◌};
+ghost use Rattle.std.specs.Prelude.{◌≡◌, ℕ, ◌<◌, ◌≤◌, true};
+ghost use Rattle.wal_ledger.specs.Shards.{committee_size};
+ghost use Rattle.wal_shape.specs.Owners.{are_owners};
 ghost use Rattle.wal_record.specs.Bits.{member};
 ghost use Rattle.wal_record.specs.Context.{count_of, first_quorum, registered, signed_in, turned, voted};
 ghost use Rattle.wal_record.specs.Questions.{votes_in, with_votes};
@@ -90,7 +92,7 @@ impl Tally {
         }
     }
 
-    /// Whether a shard's node signed in an epoch that is not before the last one.
+    /// Whether a shard's node signed in an epoch, as far as that is the last one.
     pub fn has(&self, epoch: u32, shard: u16) -> bool
         ensures { result ≡ signed_in (votes_told self.now) epoch shard }
     {
@@ -120,7 +122,9 @@ impl Tally {
 
     /// The tally after the node of a shard signed in an epoch.
     pub fn voted(&self, f: u32, epoch: u32, owners: &[u16], shard: u16) -> Tally
-        requires { f ≤ 333 }
+        requires faults { f ≤ 333 }
+        requires owners { are_owners (committee_size f) owners.now ≡ true }
+        requires shard { shard < committee_size f }
         ensures { votes_told result ≡ voted f epoch owners.now shard (votes_told self.now) }
     {
         let mut tally = self.in_epoch(f, epoch);

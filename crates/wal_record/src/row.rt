@@ -1,6 +1,8 @@
 //! The step of a record by one entry, and what it answers.
 
-ghost use Rattle.std.specs.Prelude.{◌≡◌, ℕ, ◌≤◌};
+ghost use Rattle.std.specs.Prelude.{◌≡◌, ℕ, ◌<◌, ◌≤◌};
+ghost use Rattle.wal_ledger.specs.Kept.{IsOfCommittee};
+ghost use Rattle.wal_ledger.specs.Shards.{committee_size};
 ghost use Rattle.wal_record.specs.Questions.{certificate_in, claim, count_now, home_in, is_before};
 ghost use Rattle.wal_record.specs.Questions.{is_invalid_in, lives, must_hold_in, register, tally};
 ghost use Rattle.wal_record.specs.Follow.{enter};
@@ -113,7 +115,8 @@ impl Row {
 
     /// Enters what a shard of the writing epoch's committee says of the blob.
     pub fn claim(&mut self, epoch: &Epoch, kind: Kind, shard: u16) -> Said
-        requires { IsFit epoch.now }
+        requires fit { IsFit epoch.now }
+        requires shard { shard < committee_size epoch.now.f }
         ensures { (result, record_told self.new)
             ≡ claim kind (context_told epoch.now) (record_told self.old) shard }
     {
@@ -137,7 +140,8 @@ impl Row {
 /// Enters an entry of a blob, by the epoch and the blob's record, and answers as the ledger does
 /// that has room.
 pub fn enter(epoch: &Epoch, row: &mut Row, body: &Body) -> Answer
-    requires { IsFit epoch.now }
+    requires fit { IsFit epoch.now }
+    requires shard { IsOfCommittee (committee_size epoch.now.f) body.now }
     ensures { (result, record_told row.new)
         ≡ enter (context_told epoch.now) (record_told row.old) body.now }
 {

@@ -44,7 +44,8 @@ impl ShardSet {
 
     /// Puts all shards of a shard's node into the set.
     pub(crate) fn add_node(&mut self, owners: &[u16], n: u32, shard: u16)
-        requires { n ≤ 1000 }
+        requires few { n ≤ 1000 }
+        requires shard { shard < n }
         ensures { (s : ℕ) → member self.new.words s
             ≡ (member self.old.words s || within n (same_node owners.now shard) s) }
     {
