@@ -97,7 +97,7 @@ module _ (digest : List ℕ → List ℕ) (may_want : Bool) (s : ServedState) (p
   claim_backed kind id new (_, _, unbacked refusing.Unregistered h, told, is) = (inr (1, inl refl, told.0, is), told.1)
   claim_backed kind id new (_, _, unbacked refusing.Declined h, told, is) = (inr (5, inr (inl refl), told.0, is), told.1)
   claim_backed kind id new (_, _, unbacked refusing.Expires h, told, is) = (inr (8, inr (inr refl), told.0, is), told.1)
-  claim_backed kind id new (_, _, asked answer ledger vouches entered, told, is) = 
+  claim_backed kind id new (_, _, asked answer ledger vouches entered, told, is) =
       (inl (vouches.0, vouches.1, (ap (λ (t : ServedState). t.shard) is, rw is (adds kind s.ledger s.shard.index id answer ledger entered))), told.1)
 
   serves_as : (frame : Frame) → read_of payload ≡ Ok frame → (new : ServedState) → AnswersRead digest may_want (Ok frame) s frames clash new → ServesAsShard digest s payload frame frames clash new
