@@ -21,8 +21,9 @@ pub record Kept : Type 0 where
   pub context : Context
   pub blobs : List BlobRecord
 
--- an entry is of a committee of n and of so many blobs: its shard, or the owners that it brings, are
--- of the committee, its blob has a place, and it registers until at most the epoch after the last
+-- an entry is of a committee of n and of so many blobs: its shard, or the owners that it brings,
+-- are of the committee, its blob has a place, and it registers until at most the epoch after the
+-- last
 abbrev pub IsOf : ℕ → ℕ → Item → Type 0
 IsOf n count (Register blob until) = (blob < count) × (until ≤ 65536)
 IsOf n count (Ack blob shard) = (blob < count) × (shard < n)

@@ -10,8 +10,8 @@ ghost use Rattle.wal_follow.specs.declared.item.Item.{Item};
 ghost use Rattle.wal_follow.specs.Enter.{IsOf, entered};
 ghost use Rattle.wal_follow.specs.Ledger.{AreApart, KeepsUp, Says, kept_of};
 
-/// Where the context and the records are those of a ledger that has room, an entry makes of them those
-/// of the ledger after it, and comes to what that ledger answers.
+/// Where the context and the records are those of a ledger that has room, an entry makes of them
+/// those of the ledger after it, and comes to what that ledger answers.
 pub fn keeps_up()
     ensures { (ids : List BlobId) (old : LedgerState) (item : Item) (body : Body)
         → IsLawful old.log → 0 < old.spare → AreApart ids → Says ids item body
