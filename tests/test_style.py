@@ -8,7 +8,7 @@ from test_pages import SECONDS, TOP
 
 CLIENT = TOP / "clients" / "python"
 MODULES = sorted(file for file in CLIENT.glob("*.py") if not file.name.startswith("test_"))
-MODULES += sorted((CLIENT / "walrus").glob("*.py"))
+MODULES += sorted(it for it in (CLIENT / "walrus").rglob("*.py") if "network" not in it.parts)
 NAMES = ("network", "spread", "bad_encoding", "one_shard", "bundle", "journal", "challenge", "gateway")
 EXAMPLES = [TOP / "examples" / name for name in NAMES]
 DOCS = [TOP / "docs" / f"{name}.py" for name in ("clauses", "definitions", "tables")]

@@ -14,13 +14,14 @@ SECONDS = 120  # of a process, on a busy machine
 VERSION = (TOP / "VERSION").read_text().strip()
 IMPORTS = """import importlib, pathlib, pkgutil, sys, {package} as package
 left_out = ("__main__", "walrus.network", "libwalrus")
-for found in pkgutil.iter_modules(package.__path__, "{package}."):
-    found.name.endswith(left_out) or importlib.import_module(found.name)
+for found in pkgutil.walk_packages(package.__path__, "{package}."):
+    is_other = "{package}" == "walrus" and found.name.startswith("walrus.network.")
+    is_other or found.name.endswith(left_out) or importlib.import_module(found.name)
 print(*{{it.__file__ for name, it in sys.modules.items() if name.startswith("walrus")}})
 """
-PAGES = """import pathlib, walrus.network
-from walrus.network.gateway import PAGES
-folder = pathlib.Path(walrus.network.__file__).parent
+PAGES = """import pathlib, walrus.network.gateway
+from walrus.network.gateway.app import PAGES
+folder = pathlib.Path(walrus.network.gateway.__file__).parent
 print([name for name in PAGES.values() if not (folder / name).stat().st_size])
 """
 READS = """import walrus
@@ -29,7 +30,7 @@ metadata, slivers = encoded.metadata, encoded.slivers
 print(bytes(walrus.read(encoded.identifier, [metadata, slivers[0][0], slivers[2][0]])).decode())
 """
 PUBLISHES = """import asyncio, contextlib, os
-from walrus import client, library
+from walrus import client; from walrus.client import in_process as library
 from walrus.serving import ProcessShard
 async def main():
     async with contextlib.AsyncExitStack() as stack:
@@ -41,8 +42,8 @@ async def main():
 asyncio.run(main())
 """
 TYPED = """import walrus
-from walrus import client, frames
-from walrus.network.settings import Settings
+from walrus import client; from walrus.format import frames
+from walrus.network.settings.services import Settings
 reveal_type(walrus.encode)
 reveal_type(client.fetch)
 reveal_type(frames.write_frame)

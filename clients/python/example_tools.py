@@ -7,7 +7,8 @@ import sys
 from collections.abc import Callable, Coroutine
 from typing import Any
 
-from walrus import client, frames, loop
+from walrus import client, loop
+from walrus.format import frames
 
 TOP = pathlib.Path(__file__).resolve().parents[2]
 os.environ.setdefault("PYTHONPATH", str(TOP / "clients" / "python"))  # for modules that run as processes

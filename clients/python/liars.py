@@ -17,7 +17,8 @@ import sys
 import time
 from collections.abc import AsyncIterator, Awaitable, Callable
 
-from walrus import client, frames, loop
+from walrus import client, loop
+from walrus.format import frames
 from example_tools import find_walrus
 
 Way = Callable[[bytes, asyncio.StreamWriter, client.Shape], Awaitable[None]]

@@ -8,8 +8,9 @@ import unittest
 from unittest import mock
 
 import example_tools
-from walrus import audit as walrus_audit, client, frames, front as walrus_front, loop, serving
+from walrus import audit as walrus_audit, client, front as walrus_front, loop, serving
 from walrus.audit import Audit, audit
+from walrus.format import frames
 
 SLOW = 30.0  # seconds until anything must have ended, on a busy machine
 BEACON, NAME = bytes(range(32)), "e02bba4bcbf5e38690b9d44c477647094b390c35d101726424629de2f5ab48fa"

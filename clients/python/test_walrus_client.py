@@ -11,7 +11,9 @@ from unittest import mock
 
 import example_tools
 import test_walrus_frames
-from walrus import client, executable, frames, loop
+from walrus import client, loop
+from walrus.client import program
+from walrus.format import frames
 from walrus.refill import refill
 from walrus.serving import ProcessShard
 
@@ -229,12 +231,12 @@ class Errors(ProgramCase):
 
     async def test_a_run_that_is_given_up_has_ended(self):
         """Otherwise asyncio complains about it on standard error when an interrupt ends its loop."""
-        with mock.patch.object(executable, "LINGERS", SLOW):
+        with mock.patch.object(program, "LINGERS", SLOW):
             process, _ = await self.give_up("sleep 2")
         self.assertEqual((process.returncode, process.stdout.at_eof()), (-9, True))
 
     async def test_giving_up_a_run_does_not_wait_for_what_it_started(self):
-        with mock.patch.object(executable, "LINGERS", 0.2):
+        with mock.patch.object(program, "LINGERS", 0.2):
             process, child = await self.give_up("sleep 600")
         self.assertFalse(process.stdout.at_eof())
         os.kill(int(child), signal.SIGKILL)

@@ -20,11 +20,13 @@ sys.path[:0] = [str(TOP / "tests"), str(TOP / "clients" / "python")]
 
 import example_tools  # noqa: E402
 import walrus  # noqa: E402
-from walrus import client, codes, engines, executable  # noqa: E402
-from walrus.buffers import Buffer  # noqa: E402
-from walrus.codes import Code  # noqa: E402
-from walrus.engines import BUILT  # noqa: E402
-from walrus.wire import Data  # noqa: E402
+from walrus import client  # noqa: E402
+from walrus.client import program  # noqa: E402
+from walrus.engines import backends, codes  # noqa: E402
+from walrus.engines.backends import BUILT  # noqa: E402
+from walrus.engines.buffers import Buffer  # noqa: E402
+from walrus.engines.codes import Code  # noqa: E402
+from walrus.wire.connection import Data  # noqa: E402
 from worked import FALSE, HONEST, PRIMARY, SIX_WORDS  # noqa: E402
 
 LIBRARIES = [pathlib.Path(os.environ["WALRUS_LIBRARY"])] if os.environ.get("WALRUS_LIBRARY") else []
@@ -87,12 +89,12 @@ def turned(text: Data) -> bytes:
 class ForeignEngine:
     """The program with refusals that are not in English: they can only be distinguished by their codes."""
 
-    def __init__(self, engine: engines.Engine) -> None:
+    def __init__(self, engine: backends.Engine) -> None:
         self.engine = engine
 
-    def run(self, words: Sequence[str], data: Buffer = b"", room: Optional[int] = None) -> engines.Ran:
+    def run(self, words: Sequence[str], data: Buffer = b"", room: Optional[int] = None) -> backends.Ran:
         status, text = self.engine.run(words, data, room)
-        return engines.Ran(status, memoryview(turned(text)) if status and text[:1] != b"\x57" else text)
+        return backends.Ran(status, memoryview(turned(text)) if status and text[:1] != b"\x57" else text)
 
     def code(self, status: int, text: Buffer) -> Code:
         return self.engine.code(status, turned(memoryview(text)) if bytes(memoryview(text)[:1]) != b"\x57" else text)
@@ -169,7 +171,7 @@ class Kinds(unittest.TestCase):
         }
         for code in Code:
             wanted = next((kind for kind, found in kinds.items() if code in found), client.Refused)
-            made = executable.refusal(4, b"7 ??? 9\n" if code is Code.TOO_FEW else b"??? 9\n", {}, code)
+            made = program.refusal(4, b"7 ??? 9\n" if code is Code.TOO_FEW else b"??? 9\n", {}, code)
             self.assertEqual((type(made), made.code), (wanted, code))
             if isinstance(made, client.TooFew):
                 self.assertEqual((made.held, made.needed), (7, 9) if code is Code.TOO_FEW else (0, 0))

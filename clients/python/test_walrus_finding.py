@@ -17,7 +17,8 @@ sys.path[:0] = [str(TOP / "tests"), str(TOP / "clients" / "python")]
 
 import walrus  # noqa: E402
 from test_walrus_library import LIBRARIES, PROGRAMS, SECONDS  # noqa: E402
-from walrus import Code, client as walrus_client, library as walrus_library  # noqa: E402
+from walrus import Code, client as walrus_client  # noqa: E402
+from walrus.client import in_process as walrus_library  # noqa: E402
 from worked import HONEST, SECOND, SECONDARY, SIX_WORDS  # noqa: E402
 
 DEBIAN = pathlib.Path("/usr/bin/python3")

@@ -1,7 +1,8 @@
 """Tests of the frames and envelopes that the client reads and writes: python3 -m unittest, in this folder."""
 import unittest
 
-from walrus import client, frames, loop as walrus_loop
+from walrus import client, loop as walrus_loop
+from walrus.format import frames
 
 walrus_loop.wait_without_threads()
 

@@ -7,7 +7,9 @@ from unittest import mock
 
 import example_tools
 import liars
-from walrus import client, frames, front as walrus_front, loop, port as walrus_port
+from walrus import client, front as walrus_front, loop
+from walrus.format import frames
+from walrus.wire import port as walrus_port
 
 loop.wait_without_threads()
 

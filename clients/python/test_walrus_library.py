@@ -17,8 +17,9 @@ TOP = pathlib.Path(__file__).resolve().parents[2]
 sys.path[:0] = [str(TOP / "tests"), str(TOP / "clients" / "python")]
 
 import walrus  # noqa: E402
-from walrus import Code, engines  # noqa: E402
-from walrus.engines import BUILT, PROGRAM  # noqa: E402
+from walrus import Code  # noqa: E402
+from walrus.engines import backends  # noqa: E402
+from walrus.engines.backends import BUILT, PROGRAM  # noqa: E402
 from worked import ELEVEN, FALSE, HONEST, PRIMARY, SECOND, SECONDARY, SIX_WORDS, envelope, ladder  # noqa: E402
 
 LIBRARIES = [pathlib.Path(os.environ["WALRUS_LIBRARY"])] if os.environ.get("WALRUS_LIBRARY") else []
@@ -95,7 +96,7 @@ class Calls:
         if not isinstance(walrus.engine(), walrus.Library):
             self.skipTest("the program has no room")
         long = HONEST.envelopes() + envelope(0, bytes(17_999_999))
-        with mock.patch.object(engines, "Room", side_effect=engines.Room) as room:
+        with mock.patch.object(backends, "Room", side_effect=backends.Room) as room:
             self.assertEqual(walrus.read(HONEST.id, HONEST.envelopes()), SIX_WORDS)
             with self.assertRaises(walrus.Lacking):
                 walrus.read(HONEST.id, b"")
@@ -132,7 +133,7 @@ class Calls:
             "replay": lambda: walrus.run("replay", data=walrus.run("sample", 1).text),
         }
         for command, run in runs.items():
-            with self.subTest(command=command), mock.patch.object(engines, "Room", side_effect=engines.Room) as room:
+            with self.subTest(command=command), mock.patch.object(backends, "Room", side_effect=backends.Room) as room:
                 run()
                 self.assertEqual(room.call_count, 2 if command == "replay" else 1)
 

@@ -6,7 +6,8 @@ from collections.abc import Iterable
 
 import example_tools
 import liars
-from walrus import client, frames, loop as walrus_loop
+from walrus import client, loop as walrus_loop
+from walrus.format import frames
 
 walrus_loop.wait_without_threads()
 

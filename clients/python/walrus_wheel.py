@@ -13,7 +13,7 @@ import tomllib
 import zipfile
 from typing import Optional
 
-from walrus.engines import BUILT
+from walrus.engines.backends import BUILT
 
 HERE = pathlib.Path(__file__).resolve().parent
 TOP = HERE.parents[1]

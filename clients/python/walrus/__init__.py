@@ -11,6 +11,11 @@ releases the interpreter's lock: threads may call at the same time, as by `async
 During a call nobody may write to its input. If a process with several threads forks, the child must make no calls.
 """
 
+from walrus.engines.backends import Engine, Library, NotFound, Program, Ran, engine, use
+from walrus.engines.codes import Code
+from walrus.engines.refusals import BadlyEncoded, Collision, Lacking, Malformed, OutOfMemory, Refused, WrongWords
+from walrus.format.envelopes import Envelope, split, stream
+
 from .calls import (
     Axis,
     Encoded,
@@ -27,10 +32,6 @@ from .calls import (
     serve,
     verify,
 )
-from .codes import Code
-from .engines import Engine, Library, NotFound, Program, Ran, engine, use
-from .envelopes import Envelope, split, stream
-from .faults import BadlyEncoded, Collision, Lacking, Malformed, OutOfMemory, Refused, WrongWords
 
 __all__ = [
     "Axis",

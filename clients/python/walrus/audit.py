@@ -14,11 +14,13 @@ import sys
 from collections.abc import Iterator, Sequence
 from typing import NamedTuple
 
-from . import client, library, loop
-from .client import DONE, METADATA, MOST_FAULTS, OPENING, Symbol
-from .envelopes import parts
+
+from walrus.client import DONE, METADATA, MOST_FAULTS, OPENING, Symbol, in_process
+from walrus.client.shards import Asked
+from walrus.format.envelopes import parts
+
+from . import client, loop
 from .files import read_address, read_identifier
-from .shards import Asked
 
 LARGEST_INPUT = 134_217_728  # the most bytes of input that `walrus verify` accepts
 MOST_DRAWS, BATCH = 1_000, 16  # the most draws of an audit; symbols that are requested within one deadline
@@ -85,7 +87,7 @@ def read_words(words: Sequence[str] | None = None) -> argparse.Namespace:
 
 async def run(given: argparse.Namespace) -> bool:
     """Audit all shards at the same time and print a line for each; return whether all answers are accepted."""
-    walrus, addresses = library.find(given.walrus), enumerate(given.addresses)
+    walrus, addresses = in_process.find(given.walrus), enumerate(given.addresses)
     shards = [client.SocketShard(number, given.faults, place, given.seconds) for number, place in addresses]
     try:
         asked = [audit(shard, given.identifier, given.beacon, given.count, walrus) for shard in shards]

@@ -10,12 +10,14 @@ import itertools
 import struct
 from collections.abc import Sequence
 
+
+from walrus.client import METADATA, OPENING, SECOND_METADATA, SLIVER
+from walrus.client.program import refusal
+from walrus.client.shards import Asked
+from walrus.engines.codes import Code, numbers_of
+from walrus.format.envelopes import parts
+
 from . import client
-from .client import METADATA, OPENING, SECOND_METADATA, SLIVER
-from .codes import Code, numbers_of
-from .envelopes import parts
-from .executable import refusal
-from .shards import Asked
 
 COUNT, ENTRY = struct.Struct(">H"), struct.Struct(">HI")  # of the index: number of members; first column and length
 

@@ -4,11 +4,12 @@ from collections.abc import Iterable
 from dataclasses import dataclass
 from typing import Literal, NamedTuple, Optional
 
-from .buffers import Buffer
-from .codes import SHOWS_NOTHING, Code
-from .engines import MOST_ROOM, ROOM, Ran, engine
-from .envelopes import Payloads, split, stream, streamed
-from .faults import BadlyEncoded, Lacking, refused
+
+from walrus.engines.backends import MOST_ROOM, ROOM, Ran, engine
+from walrus.engines.buffers import Buffer
+from walrus.engines.codes import SHOWS_NOTHING, Code
+from walrus.engines.refusals import BadlyEncoded, Lacking, refused
+from walrus.format.envelopes import Payloads, split, stream, streamed
 
 Axis = Literal["primary", "secondary"]
 LARGEST_BLOB = 16_777_216

@@ -16,8 +16,10 @@ import sys
 from collections.abc import Sequence
 from typing import NamedTuple, Optional
 
-from . import bundles as walrus_bundles, client, library as walrus_library, loop
-from .client import LARGEST_BLOB, MOST_FAULTS
+
+from walrus.client import LARGEST_BLOB, MOST_FAULTS, in_process as walrus_library
+
+from . import bundles as walrus_bundles, client, loop
 
 
 def read_address(text: str) -> tuple[str, int]:

@@ -15,9 +15,12 @@ import sys
 from collections.abc import Callable, Sequence
 from typing import Any, Optional
 
+
+from walrus.client import HEAD, MOST_FAULTS, Shape, envelope
+from walrus.wire.port import Bounds, Port
+from walrus.wire.served_client import Said
+
 from . import loop as walrus_loop
-from .client import HEAD, MOST_FAULTS, Shape, envelope
-from .port import Bounds, Port, Said
 from .serving import Ended, Process, status_in_words
 
 LIFE = 1_073_741_824  # bytes of requests that a process accepts in total

@@ -10,8 +10,10 @@ import sys
 from collections.abc import Iterator
 from typing import Optional
 
+
+from walrus.client import METADATA, PROOF, SECOND_METADATA, SLIVER
+
 from . import client
-from .client import METADATA, PROOF, SECOND_METADATA, SLIVER
 
 HEAD = struct.Struct(">BB32sBI")  # of a record: the gate, the kind, the identifier, the part and the size
 PUT, DROP_PART, DROP_ALL = 1, 2, 3

@@ -2,8 +2,10 @@
 import asyncio
 from collections.abc import Iterable
 
+
+from walrus.client import COUNTS, DONE, HELD, METADATA, PRIMARY, SECONDARY, SLIVERS, Failed
+
 from . import client
-from .client import COUNTS, DONE, HELD, METADATA, PRIMARY, SECONDARY, SLIVERS, Failed
 
 
 async def give(shard: client.Shard, step: client.Step) -> None:

@@ -13,7 +13,7 @@ import threading
 import time
 from typing import Any, Callable, Iterator
 
-from walrus.network import staged
+from walrus.network.node.disk import group_commit
 
 from .connections import Loop
 from .loop import RUNNING, Escaped
@@ -104,7 +104,7 @@ def bottle(seed: int) -> Iterator[Loop]:
         (subprocess.Popen, "__init__", escaped),
         (concurrent.futures.ThreadPoolExecutor, "submit", submit),
         (ssl.SSLContext, "load_cert_chain", load),
-        (staged, "threading", Threading),
+        (group_commit, "threading", Threading),
     ]
     with contextlib.ExitStack() as opened:
         for where, name, new in changes:

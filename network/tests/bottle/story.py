@@ -7,10 +7,10 @@ import pathlib
 from typing import Any, Callable, Coroutine
 
 from walrus import client
-from walrus.network import follower
-from walrus.network.client import Network
-from walrus.network.handover import survey
-from walrus.network.ledger import OPERATOR
+from walrus.network.ledger import follower
+from walrus.network.ledger.entries import OPERATOR
+from walrus.network.node.handover import survey
+from walrus.network.peers.network import Network
 
 from .connections import Loop
 from .loop import OUTSIDE

@@ -7,16 +7,17 @@ import random
 import shutil
 from typing import Any, Coroutine, Optional
 
-from walrus.network import certificates, recording
-from walrus.network.client import Access, Network
-from walrus.network.etcd import Failed
-from walrus.network.follower import NAME as RECORDER
-from walrus.network.keeping import Keeper
-from walrus.network.ledger import OPERATOR
-from walrus.network.node import Node
-from walrus.network.settings import RecorderSettings, Settings
-from walrus.network.state import State
-from ledger_case import Memory
+from support.ledger_case import Memory
+from walrus.network.ledger.entries import OPERATOR
+from walrus.network.ledger.follower import NAME as RECORDER
+from walrus.network.ledger.state import State
+from walrus.network.node.node import Node
+from walrus.network.peers.network import Access, Network
+from walrus.network.recorder import server
+from walrus.network.recorder.compaction import Keeper
+from walrus.network.recorder.etcd import Failed
+from walrus.network.service import certificates
+from walrus.network.settings.services import RecorderSettings, Settings
 
 from .connections import Loop
 from .escapes import SYNCED
@@ -87,8 +88,8 @@ class World:
         settings = RecorderSettings(name=name, host=HOSTS[name], port=PORT, **files_of(RECORDER), **words)
 
         async def begin() -> None:
-            recorder = recording.Recorder(self.etcd, State())
-            service = recording.Service(recorder, settings)
+            recorder = server.Recorder(self.etcd, State())
+            service = server.Service(recorder, settings)
             for work in (recorder.run(), Keeper(recorder, 3_600).run()):
                 RUNNING.get().kept.append(asyncio.create_task(work))
             RUNNING.get().kept.append(service)

@@ -4,7 +4,7 @@ import sys
 
 def main() -> int:
     try:
-        from . import commands
+        from walrus.network.cli import commands
 
         return commands.main()
     except KeyboardInterrupt:
