@@ -15,6 +15,7 @@ from .entries import Chain
 
 LONGEST = 1_048_576  # bytes of a piece before it is compressed
 MOST_PIECES = 65_536  # of a checkpoint: more than any etcd has room for
+MOST_LINE = 4_194_304  # bytes of a line: some 60,000 names, such as of those who keep one blob
 MOST_FIELDS = 16_777_216  # bytes of its lines beside those of blobs: all are in memory, and written with each commit
 WRONG = ValueError, LookupError, TypeError, AttributeError, ArithmeticError, RecursionError  # raised by a wrong text
 # Of a blob: identifier, number, until, poster, votes, and the epochs in which it was certified and declared invalid.
@@ -71,11 +72,11 @@ def unpacked(piece: bytes) -> bytes:
     """Decompresses a piece, up to the size of one: a few bytes could fill the memory. Raises `Unfit`."""
     packed = zlib.decompressobj()
     try:
-        text = packed.decompress(piece, MOST_FIELDS + 1)
+        text = packed.decompress(piece, MOST_LINE + 1)
     except zlib.error as fault:
         raise Unfit(f"a piece of the checkpoint is damaged: {fault}") from None
-    if len(text) > (LONGEST if b"\n" in text[:-1] else MOST_FIELDS):  # a longer line is a piece of its own
-        raise Unfit(f"a piece of the checkpoint has more than {LONGEST} bytes, or a line more than {MOST_FIELDS}")
+    if len(text) > (LONGEST if b"\n" in text[:-1] else MOST_LINE):  # a longer line is a piece of its own
+        raise Unfit(f"a piece of the checkpoint has more than {LONGEST} bytes, or a line more than {MOST_LINE}")
     if not packed.eof or packed.unused_data:
         raise Unfit("a piece of the checkpoint is damaged: it does not end where it should")
     return text
